@@ -1,1 +1,6 @@
+pub mod Decoding
+pub mod Found
+pub mod Lines
 pub mod ListLemmas
+pub mod Places
+pub mod Steps

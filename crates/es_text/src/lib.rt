@@ -3,8 +3,14 @@
 
 mod items;
 mod memory;
+mod source;
 mod span;
+#[cfg(test)]
+mod tests;
+mod txt;
 
 pub use items::{Items, push_at};
 pub use memory::NoMemory;
+pub use source::{MOST_BYTES, MOST_TEXT_BYTES, Source, SourceFault};
 pub use span::{Place, Span};
+pub use txt::Txt;

@@ -1,0 +1,4 @@
+pub mod Fakes
+pub mod Outside
+pub mod Real
+pub mod Seen

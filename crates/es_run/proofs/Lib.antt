@@ -1,0 +1,12 @@
+pub mod Ascii
+pub mod CharacterLemmas
+pub mod Debuggers
+pub mod FreshLemmas
+pub mod InsideLemmas
+pub mod Parsing
+pub mod Programs
+pub mod ReportLemmas
+pub mod Sequences
+pub mod Statements
+pub mod StylishLemmas
+pub mod WordLemmas

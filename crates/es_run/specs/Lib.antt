@@ -1,0 +1,10 @@
+pub mod Characters
+pub mod Found
+pub mod Fresh
+pub mod Inside
+pub mod Reading
+pub mod SmallText
+pub mod Stages
+pub mod Statuses
+pub mod Stylish
+pub mod Words

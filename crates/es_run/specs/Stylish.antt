@@ -1,0 +1,64 @@
+-- The stylish report of one file, of which every problem is an error. Its parts are lists of characters.
+use Rattle.std.specs.Prelude.{ℕ, ◌-◌, List, [], ◌∷◌, ◌++◌, length, map, max, replicate, codes, encode_utf8_all, ◌==◌, if◌then◌else◌}
+use Rattle.std.specs.Fmt.{decimal}
+use Rattle.std.specs.List.{flat_map}
+use Rattle.es_text.specs.declared.span.Place.{Place}
+use Rattle.es_run.specs.declared.stylish.Problem.{Problem}
+
+-- LF
+abbrev pub line_end : List ℕ
+line_end = 10 ∷ []
+
+-- `LINE:COLUMN`
+abbrev pub place_text : Place → List ℕ
+place_text place = decimal place.line ++ (codes ":" ++ decimal place.column)
+
+-- the length of the longest text
+abbrev pub widest : List (List ℕ) → ℕ
+widest [] = 0
+widest (text ∷ texts) = max (length text) (widest texts)
+
+-- the text, with spaces at its right up to the width
+abbrev pub padded : ℕ → List ℕ → List ℕ
+padded width text = text ++ replicate (width - length text) 32
+
+-- the line of one problem, where the places and the messages of the file have these widths
+abbrev pub problem_line : ℕ → ℕ → Problem → List ℕ
+problem_line place_width text_width problem =
+    codes "  " ++ (padded place_width (place_text problem.place)
+    ++ (codes "  error  " ++ (padded text_width problem.text
+    ++ (codes "  " ++ (problem.rule ++ line_end)))))
+
+-- the widths of the places and of the messages
+abbrev pub widest_place : List Problem → ℕ
+widest_place problems = widest (map (λ problem. place_text problem.place) problems)
+
+abbrev pub widest_text : List Problem → ℕ
+widest_text problems = widest (map (λ problem. problem.text) problems)
+
+-- one line for each problem
+abbrev pub problem_lines : List Problem → List ℕ
+problem_lines problems = flat_map (problem_line (widest_place problems) (widest_text problems)) problems
+
+-- a noun is singular where its number is 1, and else ends in an s
+abbrev pub ending_of : ℕ → List ℕ
+ending_of number = if number == 1 then [] else codes "s"
+
+-- a number and its noun
+abbrev pub counted : ℕ → List ℕ → List ℕ
+counted number noun = decimal number ++ (codes " " ++ (noun ++ ending_of number))
+
+-- `✖ N problems (N errors, 0 warnings)`, where ✖ is U+2716
+abbrev pub summary : ℕ → List ℕ
+summary number =
+    0x2716 ∷ codes " " ++ (counted number (codes "problem")
+    ++ (codes " (" ++ (counted number (codes "error")
+    ++ (codes ", " ++ (counted 0 (codes "warning") ++ codes ")")))))
+
+-- The bytes of the report, from the name's bytes and the problems: nothing without any problem; else LF, the name, LF,
+-- the lines, LF, the summary, LF.
+abbrev pub stylish_of : List ℕ → List Problem → List ℕ
+stylish_of name [] = []
+stylish_of name (problem ∷ problems) =
+    line_end ++ (name ++ (line_end ++ (encode_utf8_all (problem_lines (problem ∷ problems))
+    ++ (line_end ++ (encode_utf8_all (summary (length (problem ∷ problems))) ++ line_end)))))

@@ -1,0 +1,217 @@
+//! The stylish report of one file, of which every problem is an error.
+
+ghost use Rattle.std.specs.Prelude.{◌≡◌, IfOk, length, encode_utf8_all, string_bytes};
+ghost use Rattle.std.specs.Str.{chars};
+ghost use Rattle.es_run.specs.Stylish.{place_text, padded, problem_line, problem_lines, widest_place, widest_text, counted, ending_of, summary, stylish_of};
+
+use es_text::{NoMemory, Place, Txt};
+use std::alloc::Global;
+
+/// A problem of the file: its place, its message and the id of its rule.
+#[derive(Drop)]
+pub(crate) struct Problem {
+    pub(crate) place: Place,
+    pub(crate) text: Txt,
+    pub(crate) rule: Txt,
+}
+
+/// The widths of a file's places and messages, in characters.
+#[derive(Clone, Copy)]
+struct Widths {
+    place: usize,
+    text: usize,
+}
+
+/// The report of a file of this name. It is empty without any problem.
+pub(crate) fn stylish(alloc: Global, name: &str, problems: &[Problem]) -> Result<String, NoMemory>
+    ensures { IfOk result (λ report. string_bytes report ≡ stylish_of name.now problems.now) }
+{
+    if problems.is_empty() {
+        return Ok(String::new(alloc));
+    }
+    let lines = lines_text(alloc, problems)?;
+    let summary = summary_text(alloc, problems.len())?;
+    Ok(format!(in alloc; "\n{name}\n{lines}\n{summary}\n")?)
+}
+
+/// One line for each problem.
+fn lines_text(alloc: Global, problems: &[Problem]) -> Result<String, NoMemory>
+    ensures { IfOk result (λ lines. string_bytes lines ≡ encode_utf8_all (problem_lines problems.now)) }
+{
+    let widths = widths_of(alloc, problems)?;
+    let mut lines = String::new(alloc);
+    for problem in problems {
+        let line = line_text(alloc, problem, widths)?;
+        lines.push_str(line.as_str())?;
+    }
+    Ok(lines)
+}
+
+/// The line of one problem.
+fn line_text(alloc: Global, problem: &Problem, widths: Widths) -> Result<String, NoMemory>
+    ensures { IfOk result (λ line. string_bytes line ≡ encode_utf8_all (problem_line widths.place widths.text problem.now)) }
+{
+    let place = padded_place(alloc, problem.place, widths.place)?;
+    let text = padded_text(alloc, problem.text.as_str(), widths.text)?;
+    let rule = problem.rule.as_str();
+    Ok(format!(in alloc; "  {place}  error  {text}  {rule}\n")?)
+}
+
+/// The widest place and the widest message.
+fn widths_of(alloc: Global, problems: &[Problem]) -> Result<Widths, NoMemory>
+    ensures place { IfOk result (λ widths. widths.place ≡ widest_place problems.now) }
+    ensures text { IfOk result (λ widths. widths.text ≡ widest_text problems.now) }
+{
+    let mut widths = Widths { place: 0, text: 0 };
+    for problem in problems {
+        let place = place_of(alloc, problem.place)?;
+        widths.place = widths.place.max(place.len());
+        widths.text = widths.text.max(char_count(problem.text.as_str()));
+    }
+    Ok(widths)
+}
+
+/// `LINE:COLUMN`.
+fn place_of(alloc: Global, place: Place) -> Result<String, NoMemory>
+    ensures bytes { IfOk result (λ text. string_bytes text ≡ place_text place) }
+    ensures characters { IfOk result (λ text. chars (string_bytes text) ≡ place_text place) }
+{
+    let line = place.line;
+    let column = place.column;
+    Ok(format!(in alloc; "{line}:{column}")?)
+}
+
+/// `LINE:COLUMN` with spaces at its right up to the width.
+fn padded_place(alloc: Global, place: Place, width: usize) -> Result<String, NoMemory>
+    ensures { IfOk result (λ text. string_bytes text ≡ encode_utf8_all (padded width (place_text place))) }
+{
+    let place = place_of(alloc, place)?;
+    padded_text(alloc, place.as_str(), width)
+}
+
+/// The text with spaces at its right up to the width, in characters.
+fn padded_text(alloc: Global, text: &str, width: usize) -> Result<String, NoMemory>
+    ensures { IfOk result (λ wide. string_bytes wide ≡ encode_utf8_all (padded width (chars text.now))) }
+{
+    let mut wide = String::from_str(alloc, text)?;
+    for _ in 0..width.saturating_sub(char_count(text)) {
+        wide.push(' ')?;
+    }
+    Ok(wide)
+}
+
+/// How many characters the text has.
+fn char_count(text: &str) -> usize
+    ensures { result ≡ length (chars text.now) }
+{
+    text.chars().count()
+}
+
+/// `✖ N problems (N errors, 0 warnings)`.
+fn summary_text(alloc: Global, number: usize) -> Result<String, NoMemory>
+    ensures { IfOk result (λ text. string_bytes text ≡ encode_utf8_all (summary number)) }
+{
+    let problems = counted_text(alloc, number, "problem")?;
+    let errors = counted_text(alloc, number, "error")?;
+    let warnings = counted_text(alloc, 0, "warning")?;
+    Ok(format!(in alloc; "✖ {problems} ({errors}, {warnings})")?)
+}
+
+/// A number and its noun, which is singular where the number is 1.
+fn counted_text(alloc: Global, number: usize, noun: &str) -> Result<String, NoMemory>
+    ensures { IfOk result (λ text. string_bytes text ≡ counted number noun.now) }
+{
+    let ending = plural_ending(number);
+    Ok(format!(in alloc; "{number} {noun}{ending}")?)
+}
+
+/// What follows the noun: nothing where the number is 1, else an s.
+fn plural_ending(number: usize) -> &'static str
+    ensures { result.now ≡ ending_of number }
+{
+    if number == 1 { "" } else { "s" }
+}
+
+#[cfg(test)]
+mod tests {
+    use super::{Problem, stylish};
+    use es_text::{NoMemory, Place, Txt};
+    use std::alloc::Global;
+
+    struct Case {
+        name: &'static str,
+        problems: &'static [(u32, u32, &'static str)],
+        report: &'static str,
+    }
+
+    const DEBUGGER: &str = "Unexpected 'debugger' statement.";
+
+    static CASES: [Case; 4] = [
+        Case {
+            name: "a.js",
+            problems: &[],
+            report: "",
+        },
+        Case {
+            name: "a.js",
+            problems: &[(1, 1, DEBUGGER)],
+            report: "
+a.js
+  1:1  error  Unexpected 'debugger' statement.  no-debugger
+
+✖ 1 problem (1 error, 0 warnings)
+",
+        },
+        Case {
+            name: "a.js",
+            problems: &[(1, 1, DEBUGGER), (3, 2, DEBUGGER)],
+            report: "
+a.js
+  1:1  error  Unexpected 'debugger' statement.  no-debugger
+  3:2  error  Unexpected 'debugger' statement.  no-debugger
+
+✖ 2 problems (2 errors, 0 warnings)
+",
+        },
+        Case {
+            name: "src/é.js",
+            problems: &[
+                (9, 10, "Short."),
+                (12, 3, "Unexpected 'é😀'."),
+                (100, 200, ""),
+            ],
+            report: "
+src/é.js
+  9:10     error  Short.            no-debugger
+  12:3     error  Unexpected 'é😀'.  no-debugger
+  100:200  error                    no-debugger
+
+✖ 3 problems (3 errors, 0 warnings)
+",
+        },
+    ];
+
+    fn problems_of(alloc: Global, rows: &[(u32, u32, &str)]) -> Result<Vec<Problem>, NoMemory> {
+        let mut problems = Vec::new(alloc);
+        for (line, column, text) in rows {
+            problems.push(Problem {
+                place: Place {
+                    line: *line,
+                    column: *column,
+                },
+                text: Txt::new(alloc, text)?,
+                rule: Txt::new(alloc, "no-debugger")?,
+            })?;
+        }
+        Ok(problems)
+    }
+
+    #[test]
+    fn reports(rt: HostRuntime) {
+        for case in &CASES {
+            let problems = problems_of(rt.alloc(), case.problems).expect(&rt, "memory");
+            let report = stylish(rt.alloc(), case.name, &problems).expect(&rt, "memory");
+            assert_eq!(rt; report.as_str(), case.report);
+        }
+    }
+}

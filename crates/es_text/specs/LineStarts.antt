@@ -1,0 +1,24 @@
+-- What a source keeps so that it finds places fast: where its lines start, in bytes.
+use Rattle.std.specs.Prelude.{ℕ, ◌+◌, ◌<◌, ◌≤◌, slice_index, length, List, [], ◌∷◌, if◌then◌else◌}
+use Rattle.std.specs.Char.{len_utf8}
+use Rattle.es_text.specs.Texts.{ends_line, len_utf16}
+
+-- the starts of the lines that start behind a character of these, the first of which stands at this byte
+abbrev pub later_starts : ℕ → List ℕ → List ℕ
+later_starts at [] = []
+later_starts at (c ∷ cs) =
+    if ends_line c cs then (at + len_utf8 c) ∷ later_starts (at + len_utf8 c) cs else later_starts (at + len_utf8 c) cs
+
+abbrev pub line_starts : List ℕ → List ℕ
+line_starts characters = 0 ∷ later_starts 0 characters
+
+-- how many UTF-16 code units the characters take
+abbrev pub units_of : List ℕ → ℕ
+units_of [] = 0
+units_of (c ∷ cs) = len_utf16 c + units_of cs
+
+-- of the line starts, the one at k is the last that this byte reaches
+pub record IsLineAt (starts : List ℕ) (k at : ℕ) : Type 0 where
+  pub within : k < length starts
+  pub reached : slice_index starts k ≤ at
+  pub beyond : (i : ℕ) → k < i → i < length starts → at < slice_index starts i

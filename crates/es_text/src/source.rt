@@ -1,0 +1,212 @@
+ghost use Rattle.std.specs.Prelude.{◌≡◌, ◌≤◌, ◌<◌, false, length, IfOk, IfErr, OnOk, slice_index, slice_range, string_bytes};
+ghost use Rattle.std.specs.List.Sorted.{IsNonDecreasing};
+ghost use Rattle.std.specs.Str.{chars, encode_utf8_all, IsAscii, IsCharBoundary};
+ghost use Rattle.bstr.specs.Utf8.{lossy_chars};
+ghost use Rattle.es_text.specs.LineStarts.{line_starts, units_of, IsLineAt};
+ghost use Rattle.es_text.specs.SourceFaults.{TellsLength};
+ghost use Rattle.es_text.specs.Texts.{ends_line, place_at, text_bytes, text_of};
+
+use crate::memory::NoMemory;
+use crate::span::{Place, Span};
+use bstr::ByteSlice;
+use std::alloc::Global;
+use std::borrow::CowStr;
+use std::marker::Model;
+
+/// The most bytes of a file that is read.
+pub const MOST_BYTES: usize = 2_097_152;
+
+/// The most bytes of a source's text: U+FFFD takes three, and may stand for one byte of the file.
+pub const MOST_TEXT_BYTES: usize = 6_291_456;
+
+/// Why a file's bytes are no source.
+#[derive(Clone, Copy, Debug, PartialEq, Eq)]
+pub enum SourceFault {
+    /// The file has more than `MOST_BYTES` bytes: this many.
+    TooLong { bytes: u64 },
+    NoMemory,
+}
+
+impl From<NoMemory> for SourceFault {
+    ghost use Rattle.std.specs.Prelude.{◌≡◌};
+    ghost use Rattle.es_text.specs.declared.source.SourceFault.TheVariants as fault;
+
+    ghost from_gives = { λ _ made. made ≡ fault.NoMemory };
+
+    fn from(_error: NoMemory) -> SourceFault {
+        SourceFault::NoMemory
+    }
+}
+
+/// The text of a file, which finds the place of a byte fast.
+///
+/// Contracts see its characters, and whether a byte order mark stood in front of them. An offset counts bytes of the text's UTF-8, without the mark.
+#[derive(Drop, Debug)]
+pub struct Source {
+    text: String,
+    marked: bool,
+    starts: Vec<u32>,
+}
+
+impl Model for Source {
+    ghost use Rattle.std.specs.Prelude.{◌≡◌, ◌≤◌, length};
+    ghost use Rattle.std.specs.Str.{chars};
+    ghost use Rattle.std.specs.String.{string_bytes};
+    ghost use Rattle.es_text.specs.declared.source.TheConstants.{MOST_TEXT_BYTES};
+    ghost use Rattle.es_text.specs.LineStarts.{line_starts};
+    ghost use Rattle.es_text.specs.Texts.{Text};
+
+    ghost Value = { Text };
+
+    ghost view = { λ source. record { characters = chars (string_bytes source.text); marked = source.marked } };
+
+    ghost invariant = { λ source. (source.starts.items ≡ line_starts (chars (string_bytes source.text))) × (length (string_bytes source.text) ≤ MOST_TEXT_BYTES) };
+}
+
+impl Source {
+    /// The text of a file. U+FFFD stands for each piece of it that is no UTF-8, and one leading byte order mark is taken off.
+    pub fn new(alloc: Global, bytes: &[u8]) -> Result<Source, SourceFault>
+        ensures ok { IfOk result (λ source. source ≡ text_of bytes.now) }
+        ensures ascii { IfOk result (λ source. IsAscii bytes.now → (source.characters ≡ bytes.now) × (source.marked ≡ false)) }
+        ensures short { OnOk result (length bytes.now ≤ MOST_BYTES) }
+        ensures fault { IfErr result (TellsLength (length bytes.now)) }
+    {
+        if bytes.len() > MOST_BYTES {
+            return Err(SourceFault::TooLong {
+                bytes: bytes.len() as u64,
+            });
+        }
+        Ok(Source::read(alloc, bytes)?)
+    }
+
+    fn read(alloc: Global, bytes: &[u8]) -> Result<Source, NoMemory>
+        requires { length bytes.now ≤ MOST_BYTES }
+        ensures { IfOk result (λ source. source ≡ text_of bytes.now) }
+    {
+        let text = decode(alloc, bytes)?;
+        match text.as_str().strip_prefix('\u{feff}') {
+            Some(rest) => {
+                let rest = String::from_str(alloc, rest)?;
+                Source::of(alloc, rest, true)
+            }
+            None => Source::of(alloc, text, false),
+        }
+    }
+
+    fn of(alloc: Global, text: String, marked: bool) -> Result<Source, NoMemory>
+        requires { length (string_bytes text) ≤ MOST_TEXT_BYTES }
+        ensures { IfOk result (λ source. source ≡ record { characters = chars (string_bytes text); marked = marked }) }
+    {
+        let starts = line_starts(alloc, text.as_str())?;
+        Ok(Source {
+            text,
+            marked,
+            starts,
+        })
+    }
+
+    /// The text, in UTF-8.
+    pub fn text(&self) -> &str
+        ensures bytes { result.now ≡ text_bytes self.now }
+        ensures characters { chars result.now ≡ self.now.characters }
+        ensures bound { length result.now ≤ MOST_TEXT_BYTES }
+    {
+        self.text.as_str()
+    }
+
+    /// Whether a byte order mark stood in front of the text.
+    pub fn marked(&self) -> bool
+        ensures { result ≡ self.now.marked }
+    {
+        self.marked
+    }
+
+    /// The part of the text that the span names.
+    pub fn slice(&self, span: Span) -> &str
+        requires order { span.start ≤ span.end }
+        requires start { IsCharBoundary (text_bytes self.now) span.start }
+        requires end { IsCharBoundary (text_bytes self.now) span.end }
+        ensures { result.now ≡ slice_range (text_bytes self.now) span.start span.end }
+    {
+        &self.text()[span.start as usize..span.end as usize]
+    }
+
+    /// The place of the character that begins at this byte, or of the text's end.
+    ///
+    /// Lines end at LF, CR, U+2028 and U+2029, and CR LF is one end. Finding the line takes a binary search, and the column a pass over the line.
+    pub fn place(&self, at: u32) -> Place
+        requires { IsCharBoundary (text_bytes self.now) at }
+        ensures { result ≡ place_at self.now.characters at }
+    {
+        let line = line_at(self.starts.as_slice(), at);
+        let start = self.starts[line] as usize;
+        let units = count_units(&self.text.as_str()[start..at as usize]);
+        Place {
+            line: line as u32 + 1,
+            column: units as u32 + 1,
+        }
+    }
+}
+
+/// The bytes as text, with U+FFFD for each piece that is no UTF-8.
+fn decode(alloc: Global, bytes: &[u8]) -> Result<String, NoMemory>
+    ensures { IfOk result (λ text. string_bytes text ≡ encode_utf8_all (lossy_chars bytes.now)) }
+{
+    let text = match bytes.to_str_lossy(alloc)? {
+        CowStr::Borrowed(text) => String::from_str(alloc, text)?,
+        CowStr::Owned(text) => text,
+    };
+    Ok(text)
+}
+
+/// Where the lines of the text start, in bytes.
+fn line_starts(alloc: Global, text: &str) -> Result<Vec<u32>, NoMemory>
+    requires { length text.now ≤ MOST_TEXT_BYTES }
+    ensures { IfOk result (λ starts. starts.items ≡ line_starts (chars text.now)) }
+{
+    let mut starts = Vec::new(alloc);
+    starts.push(0)?;
+    let mut at = 0;
+    let mut rest = text.chars();
+    while let Some(c) = rest.next() {
+        at += c.len_utf8();
+        if is_line_end(c, rest.as_str()) {
+            starts.push(at as u32)?;
+        }
+    }
+    Ok(starts)
+}
+
+/// Whether a line ends behind the character, with this text behind it.
+fn is_line_end(c: char, following: &str) -> bool
+    ensures { result ≡ ends_line c (chars following.now) }
+{
+    match c {
+        '\r' => !following.starts_with('\n'),
+        '\n' | '\u{2028}' | '\u{2029}' => true,
+        _ => false,
+    }
+}
+
+/// The line in which the byte at this offset is, from 0, by where the lines start.
+fn line_at(starts: &[u32], at: u32) -> usize
+    requires rise { IsNonDecreasing starts.now }
+    requires some { 0 < length starts.now }
+    requires first { slice_index starts.now 0 ≤ at }
+    ensures { IsLineAt starts.now result at }
+{
+    starts.partition_point(|start| *start <= at) - 1
+}
+
+/// How many UTF-16 code units the text takes.
+fn count_units(text: &str) -> usize
+    requires { length text.now ≤ MOST_TEXT_BYTES }
+    ensures units { result ≡ units_of (chars text.now) }
+    ensures bound { result ≤ length text.now }
+{
+    let mut units = 0;
+    for c in text.chars() {
+        units += c.len_utf16();
+    }
+    units
+}

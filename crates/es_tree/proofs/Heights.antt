@@ -1,0 +1,55 @@
+-- The height of a tree to which a child is added.
+use Rattle.std.proofs.Common.{◌≡◌, ℕ, zero, suc, ◌+◌, ◌<◌, max, List, [], ◌∷◌, ◌++◌, length, arith, refl}
+use Rattle.std.specs.Prelude.{Option, Some, None}
+use Rattle.es_text.specs.Lists.{pushed_at}
+use Rattle.es_tree.specs.declared.shape.Shape.{Shape, out-Shape, roll-Shape}
+use Rattle.es_tree.specs.declared.shape.Shape.TheOpen.{Shape-F}
+use Rattle.es_tree.specs.declared.shape.Shape.TheShapes.{former-Shape-fields, former-Shape-fields-at-2}
+use Rattle.es_tree.specs.declared.shape.Shape.TheFolds.{fold-roll-Shape, fold_out-Shape}
+use Rattle.es_tree.specs.declared.shape.Shape.TheViews.{out-roll-Shape}
+use Rattle.es_tree.specs.Kinds.{child_fields}
+use Rattle.es_tree.specs.Shapes.{tallest, tallest_of_all, height_step, height, height_of, with_child}
+
+-- the heights in place of the children, of one field and of all
+abbrev heights_in : List (Option Shape) → List (Option ℕ)
+heights_in = former-Shape-fields-at-2.map Shape ℕ height
+
+abbrev heights : List (List (Option Shape)) → List (List (Option ℕ))
+heights = former-Shape-fields.map Shape ℕ height
+
+height_roll : (node : Shape-F Shape) → height (roll-Shape node) ≡ 1 + tallest_of_all (heights node.fields)
+height_roll = fold-roll-Shape ℕ height_step
+
+height_out : (shape : Shape) → height shape ≡ 1 + tallest_of_all (heights (out-Shape shape).fields)
+height_out = fold_out-Shape ℕ height_step
+
+tallest-push : (field : List (Option Shape)) (child : Option Shape)
+    → tallest (heights_in (field ++ child ∷ [])) ≡ max (tallest (heights_in field)) (height_of child)
+tallest-push [] None = refl
+tallest-push [] (Some shape) = omega arith
+tallest-push (None ∷ rest) child = tallest-push rest child
+tallest-push (Some shape ∷ rest) child = omega (arith, tallest-push rest child)
+
+tallest_of_all-push : (fields : List (List (Option Shape))) (at : ℕ) (child : Option Shape) → at < length fields
+    → tallest_of_all (heights (pushed_at fields at child)) ≡ max (tallest_of_all (heights fields)) (height_of child)
+tallest_of_all-push [] at child within = absurd (omega (within, arith))
+tallest_of_all-push (field ∷ rest) zero child within = omega (arith, tallest-push field child)
+tallest_of_all-push (field ∷ rest) (suc at) child within =
+    omega (arith, tallest_of_all-push rest at child (omega (within, arith)))
+
+pub height-with_child : (shape : Shape) (at : ℕ) (child : Option Shape) → at < length (out-Shape shape).fields
+    → height (with_child shape at child) ≡ max (height shape) (height_of child + 1)
+height-with_child shape at child within =
+    omega (arith, height_roll (record (out-Shape shape) { fields = pushed_at (out-Shape shape).fields at child }), height_out shape, tallest_of_all-push (out-Shape shape).fields at child within)
+
+-- adding to a field leaves the number of the fields
+pub length-pushed_at : {A : Type 0} (fields : List (List A)) (at : ℕ) (child : A) → length (pushed_at fields at child) ≡ length fields
+length-pushed_at [] at child = refl
+length-pushed_at (field ∷ rest) zero child = refl
+length-pushed_at (field ∷ rest) (suc at) child = omega (arith, length-pushed_at rest at child)
+
+-- a node that gets other lists, but as many, has one for each child field
+pub lists-kept : (shape : Shape) (lists : List (List (Option Shape))) → length lists ≡ length (child_fields (out-Shape shape).kind)
+    → length (out-Shape (roll-Shape (record (out-Shape shape) { fields = lists }))).fields
+    ≡ length (child_fields (out-Shape (roll-Shape (record (out-Shape shape) { fields = lists }))).kind)
+lists-kept shape lists same = rw (out-roll-Shape (record (out-Shape shape) { fields = lists })) same

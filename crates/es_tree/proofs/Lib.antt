@@ -1,0 +1,4 @@
+pub mod Heights
+pub mod Numbering
+pub mod Order
+pub mod Passing

@@ -1,0 +1,17 @@
+use Rattle.std.proofs.Common.{◌≡◌, ◌∙◌, length, ap, refl}
+use Rattle.es_tree.specs.Numbers.{rows_of}
+use Rattle.es_tree.proofs.Order.{is_numbered}
+use Rattle.es_tree.proofs.Passing.{list_all-rows_of}
+use Rattle.es_tree.proofs.tree.Tree.new.Goals as goal
+
+pub invariant_of-result : goal.invariant_of-result
+invariant_of-result c =
+    let rows : c.number.new.rows.items ≡ rows_of c.args.root =
+    rw (c.in_ok-number.ensures, c.into_shape.ensures, c.new-rows.ensures.items) refl in
+    (c.in_ok-nodes.ensures.ok ∙ ap length c.deref.ensures.value, rw rows (is_numbered c.args.root))
+
+pub returns-clause-spans : goal.returns-clause-spans
+returns-clause-spans c = λ test h.
+    let rows : c.number.new.rows.items ≡ rows_of c.args.root =
+    rw (c.in_ok-number.ensures, c.into_shape.ensures, c.new-rows.ensures.items) refl in
+    rw rows (list_all-rows_of test c.args.root h)

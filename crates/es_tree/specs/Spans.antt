@@ -1,0 +1,28 @@
+-- Tests that every span of a tree passes, as that it lies in a text.
+use Rattle.std.specs.Prelude.{Bool, true, ◌&&◌, List, [], ◌∷◌, Option, Some, None}
+use Rattle.es_text.specs.declared.span.Span.{Span}
+use Rattle.es_tree.specs.declared.shape.Shape.{Shape}
+use Rattle.es_tree.specs.declared.shape.Shape.TheOpen.{Shape-F}
+use Rattle.es_tree.specs.declared.shape.Shape.TheFolds.{fold-Shape}
+
+-- each child of one field passes, where these are the children's answers
+abbrev pub all_pass : List (Option Bool) → Bool
+all_pass [] = true
+all_pass (None ∷ rest) = all_pass rest
+all_pass (Some passes ∷ rest) = passes && all_pass rest
+
+abbrev pub all_fields_pass : List (List (Option Bool)) → Bool
+all_fields_pass [] = true
+all_fields_pass (field ∷ rest) = all_pass field && all_fields_pass rest
+
+abbrev pub passes_step : (Span → Bool) → Shape-F Bool → Bool
+passes_step test node = test node.span && all_fields_pass node.fields
+
+-- the spans of a node and of all below it pass the test
+abbrev pub spans_pass : (Span → Bool) → Shape → Bool
+spans_pass test = fold-Shape Bool (passes_step test)
+
+-- the spans of a child pass; a hole has none
+abbrev pub child_passes : (Span → Bool) → Option Shape → Bool
+child_passes test None = true
+child_passes test (Some shape) = spans_pass test shape

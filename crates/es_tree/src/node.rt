@@ -1,0 +1,117 @@
+ghost use Rattle.std.specs.Prelude.{Bool, ◌&&◌, ℕ, ◌≡◌, ◌+◌, ◌≤◌, max, [], length, replicate, IfOk, OnOk, OnErr};
+ghost use Rattle.es_tree.specs.declared.shape.Shape.{out-Shape};
+ghost use Rattle.es_tree.specs.Kinds.{IsKind, HasField, child_fields};
+ghost use Rattle.es_tree.specs.Spans.{child_passes, spans_pass};
+ghost use Rattle.es_text.specs.declared.span.Span.{Span};
+ghost use Rattle.es_tree.specs.Shapes.{bare, height, height_of, with_child, HasNone, HasPlace};
+
+use crate::kind;
+use crate::shape::Shape;
+use es_text::{Items, NoMemory, Span, push_at};
+use std::alloc::Global;
+use std::marker::Model;
+
+/// How many child fields a node of this kind has.
+fn count_fields(kind: u16) -> usize
+    requires { IsKind kind }
+    ensures { result ≡ length (child_fields kind) }
+{
+    match kind {
+        kind::PROGRAM | kind::EXPRESSION_STATEMENT | kind::BLOCK_STATEMENT => 1,
+        _ => 0,
+    }
+}
+
+/// This many lists of no children.
+fn no_children(alloc: Global, count: usize) -> Result<Items<Items<Option<Shape>>>, NoMemory>
+    ensures { IfOk result (λ fields. fields ≡ replicate count []) }
+{
+    let mut fields = Items::new(alloc);
+    for _ in 0..count {
+        fields.push(Items::new(alloc))?;
+    }
+    Ok(fields)
+}
+
+/// A node that is being made, with all below it. Its height is kept and never recomputed.
+#[derive(Drop)]
+pub struct Node {
+    shape: Shape,
+    levels: u32,
+}
+
+impl Model for Node {
+    ghost use Rattle.std.specs.Coded.{codes};
+    ghost use Rattle.es_tree.specs.declared.shape.Shape.{Shape};
+    ghost use Rattle.es_tree.specs.contracts.shape.Shape as e;
+
+    ghost Value = { Shape };
+
+    ghost coded = { Prim.hlevel (codes, e.the_row.coded) };
+
+    ghost use Rattle.es_tree.specs.Levels.{HasLevels};
+
+    ghost view = { λ node. node.shape };
+
+    ghost invariant = { λ node. HasLevels node.shape node.levels };
+}
+
+impl Node {
+    /// A node of this kind, the bytes of whose text are `span`, without children and attributes.
+    pub fn new(alloc: Global, kind: u16, span: Span) -> Result<Node, NoMemory>
+        requires { IsKind kind }
+        ensures node { IfOk result (λ node. node ≡ bare kind span) }
+        ensures kind { IfOk result (λ node. (out-Shape node).kind ≡ kind) }
+        ensures empty { IfOk result (λ node. (field : ℕ) → HasField kind field → HasNone node field) }
+        ensures height { IfOk result (λ node. height node ≡ 1) }
+        ensures spans { (test : Span → Bool) → IfOk result (λ node. spans_pass test node ≡ test span) }
+    {
+        let shape = Shape {
+            kind,
+            span,
+            fields: no_children(alloc, count_fields(kind))?,
+            attributes: Items::new(alloc),
+        };
+        Ok(Node { shape, levels: 1 })
+    }
+
+    /// How many nodes stand one below the other at most, from this node down: 1 for a node without
+    /// children.
+    pub fn height(&self) -> u32
+        ensures height { result ≡ height self.now }
+        ensures bounded { height self.now ≤ 1001 }
+    {
+        self.levels
+    }
+
+    /// The node as plain data.
+    pub(crate) fn into_shape(self) -> Shape
+        ensures { result ≡ self }
+    {
+        let Node { shape, levels: _ } = self;
+        shape
+    }
+
+    /// Puts the child, or for `None` a hole, at the end of the field. The field is its position, from
+    /// 0, among the child fields of the kind. After `NoMemory` the child is given up.
+    pub fn add(&mut self, field: u16, child: Option<Node>) -> Result<(), NoMemory>
+        requires field { HasField (out-Shape self.old).kind field }
+        requires place { HasPlace self.old field child }
+        requires low { height_of child ≤ 1000 }
+        ensures ok { OnOk result (self.new ≡ with_child self.old field child) }
+        ensures kind { OnOk result ((out-Shape self.new).kind ≡ (out-Shape self.old).kind) }
+        ensures height { OnOk result (height self.new ≡ max (height self.old) (height_of child + 1)) }
+        ensures spans { (test : Span → Bool) → OnOk result (spans_pass test self.new ≡ spans_pass test self.old && child_passes test child) }
+        ensures err { OnErr result (self.new ≡ self.old) }
+    {
+        let (shape, levels) = match child {
+            None => (None, 0),
+            Some(Node { shape, levels }) => (Some(shape), levels),
+        };
+        push_at(&mut self.shape.fields, field as usize, shape)?;
+        if self.levels <= levels {
+            self.levels = levels + 1;
+        }
+        Ok(())
+    }
+}

@@ -1,0 +1,6 @@
+start;
+debugger;
+{
+  step;
+  { debugger; }
+}
