@@ -11,6 +11,3 @@ mod words;
 
 pub use runner::run;
 pub use status::{Status, StopCause, status_code};
-
-#[cfg(test)]
-mod tests;
