@@ -11,3 +11,6 @@ mod words;
 
 pub use runner::run;
 pub use status::{Status, StopCause, status_code};
+
+#[cfg(test)]
+mod tests;

@@ -146,10 +146,8 @@ fn done(clean: bool) -> Status
     }
 }
 
-/// Lints the file that the words name, and prints its report.
-///
-/// Nothing is printed where the run stops before step, and the files are only read. The program's name
-/// is none of the words.
+/// Lints the file that the words name, and prints its report. The program's own name is none of the
+/// words.
 pub fn run<F: Files, O: Sink, E: Sink>(
     alloc: Global,
     words: &[String],
@@ -180,9 +178,10 @@ pub fn run<F: Files, O: Sink, E: Sink>(
     ensures quiet { IsDone result → E.got err.new ≡ E.got err.old }
 
     // What a run leaves of the output and of the counts.
-    ensures silent { IsSilent result → O.got out.new ≡ O.got out.old }
+    ensures silent { IsSilent result → (O.got out.new ≡ O.got out.old) × (O.faults out.new ≡ O.faults out.old) }
     ensures counts { IsDone result → (F.faults files.new ≡ F.faults files.old) × (O.faults out.new ≡ O.faults out.old) }
     ensures no_memory { result ≡ Status.NoMemory → (O.got out.new ≡ O.got out.old) ⊎ Rose (O.faults out.old) (O.faults out.new) }
+    ensures no_more { result ≡ Status.NoMemory → (held : Held) → F.holds files.old ≡ Some held → (O.got out.new ≡ O.got out.old) ⊎ GivesPart (map string_bytes words.now) held (O.got out.old) (O.got out.new) }
 {
     match lint(alloc, words, files) {
         Ok(report) => print(alloc, &report, out, err),

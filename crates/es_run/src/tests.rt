@@ -1,0 +1,63 @@
+use crate::{Status, run, status_code};
+use es_files::{MemoryFiles, MemorySink};
+use std::alloc::Global;
+use std::process::Abort;
+use std::test::Fail;
+
+/// A run of the words over files in memory: the status, what it printed, and what it told.
+#[derive(Drop)]
+struct Ran {
+    status: Status,
+    out: MemorySink,
+    err: MemorySink,
+}
+
+fn run_over(
+    alloc: Global,
+    words: &[&str],
+    files: &mut MemoryFiles,
+    print_fails: bool,
+) -> Result<Ran, Fail> {
+    let mut owned = Vec::new(alloc);
+    for word in words {
+        owned.push(String::from_str(alloc, word)?)?;
+    }
+    let mut out = MemorySink::new(alloc)?;
+    let mut err = MemorySink::new(alloc)?;
+    if print_fails {
+        out.fail(alloc, 1, 3)?;
+    }
+    let status = run(alloc, owned.as_slice(), files, &mut out, &mut err);
+    Ok(Ran { status, out, err })
+}
+
+/// Whether the run ended with this status, printed this text, and told this line.
+fn expect(rt: &impl Abort, ran: &Ran, status: u8, out: &str, err: &str) {
+    assert_eq!(rt; status_code(&ran.status), status);
+    assert_eq!(rt; ran.out.got(), out.as_bytes());
+    assert_eq!(rt; ran.err.got(), err.as_bytes());
+}
+
+/// Files in memory, of which `a.js` holds the text.
+fn files_of(alloc: Global, text: &str) -> Result<MemoryFiles, Fail> {
+    let mut files = MemoryFiles::new(alloc)?;
+    files.hold(alloc, "a.js", text.as_bytes())?;
+    Ok(files)
+}
+
+#[test]
+fn a_failed_read_stops_a_run(rt: HostRuntime) -> Result<(), Fail> {
+    let mut files = files_of(rt.alloc(), "debugger;")?;
+    files.fail(rt.alloc(), false, 1, 0)?;
+    let ran = run_over(rt.alloc(), &["a.js"], &mut files, false)?;
+    expect(&rt, &ran, 2, "", "esl: cannot read: a.js\n");
+    Ok(())
+}
+
+#[test]
+fn a_failed_print_stops_a_run(rt: HostRuntime) -> Result<(), Fail> {
+    let mut files = files_of(rt.alloc(), "debugger;")?;
+    let ran = run_over(rt.alloc(), &["a.js"], &mut files, true)?;
+    expect(&rt, &ran, 2, "\na.", "esl: cannot print\n");
+    Ok(())
+}
