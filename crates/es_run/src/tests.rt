@@ -4,6 +4,9 @@ use std::alloc::Global;
 use std::process::Abort;
 use std::test::Fail;
 
+const REPORT: &str =
+    "\na.js\n  1:1  error  Unexpected 'debugger' statement.  no-debugger\n  3:2  error  Unexpected 'debugger' statement.  no-debugger\n\n✖ 2 problems (2 errors, 0 warnings)\n";
+
 /// A run of the words over files in memory: the status, what it printed, and what it told.
 #[derive(Drop)]
 struct Ran {
@@ -43,6 +46,14 @@ fn files_of(alloc: Global, text: &str) -> Result<MemoryFiles, Fail> {
     let mut files = MemoryFiles::new(alloc)?;
     files.hold(alloc, "a.js", text.as_bytes())?;
     Ok(files)
+}
+
+#[test]
+fn debuggers_are_reported(rt: HostRuntime) -> Result<(), Fail> {
+    let mut files = files_of(rt.alloc(), "debugger;\na;\n{debugger;}\n")?;
+    let ran = run_over(rt.alloc(), &["a.js"], &mut files, false)?;
+    expect(&rt, &ran, 1, REPORT, "");
+    Ok(())
 }
 
 #[test]
