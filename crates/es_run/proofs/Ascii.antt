@@ -1,13 +1,12 @@
 -- A small text is ASCII.
-use Rattle.std.proofs.Common.{◌≡◌, ℕ, zero, suc, ◌+◌, ◌<◌, List, [], ◌∷◌, ◌++◌, Bool, true, refl, sym, subst, arith, get_or, length}
-use Rattle.std.specs.Prelude.{◌&&◌}
+use Rattle.std.proofs.Common.{◌≡◌, ℕ, zero, suc, ◌+◌, ◌<◌, List, [], ◌∷◌, ◌++◌, true, sym, subst, arith, length}
 use Rattle.std.specs.List.{list_all}
 use Rattle.std.specs.Str.{IsAscii}
 use Rattle.std.proofs.lemmas.Bool.Decides.{nat_tests}
+use Rattle.std.proofs.lemmas.Bool.{and_parts}
 use Rattle.es_tree.specs.declared.shape.Shape.{Shape}
 use Rattle.es_run.specs.Characters.{is_separator, is_name_part}
 use Rattle.es_run.specs.SmallText.{Statement, Statements, empty, word, block, none, separated, more}
-use Rattle.es_run.proofs.InsideLemmas.{and_first, and_second}
 
 -- each character is below 128
 abbrev AllAscii : List ℕ → Type 0
@@ -27,12 +26,12 @@ separator_ascii c h = grind (arith, nat_tests)
 name_ascii : (cs : List ℕ) → list_all is_name_part cs ≡ true → AllAscii cs
 name_ascii [] h = tt
 name_ascii (c ∷ cs) h =
-    (name_part_ascii c (and_first (is_name_part c) (list_all is_name_part cs) h), name_ascii cs (and_second (is_name_part c) (list_all is_name_part cs) h))
+    (name_part_ascii c ((and_parts (is_name_part c) (list_all is_name_part cs) h).0), name_ascii cs ((and_parts (is_name_part c) (list_all is_name_part cs) h).1))
 
 gap_ascii : (cs : List ℕ) → list_all is_separator cs ≡ true → AllAscii cs
 gap_ascii [] h = tt
 gap_ascii (c ∷ cs) h =
-    (separator_ascii c (and_first (is_separator c) (list_all is_separator cs) h), gap_ascii cs (and_second (is_separator c) (list_all is_separator cs) h))
+    (separator_ascii c ((and_parts (is_separator c) (list_all is_separator cs) h).0), gap_ascii cs ((and_parts (is_separator c) (list_all is_separator cs) h).1))
 
 mutual
   statement_ascii : (blocks start : ℕ) (text : List ℕ) (node : Shape) → Statement blocks start text node → AllAscii text

@@ -1,9 +1,9 @@
 -- What the classes of characters leave out, and runs of a class.
-use Rattle.std.proofs.Common.{◌≡◌, ℕ, suc, ◌+◌, ◌≤◌, List, [], ◌∷◌, ◌++◌, length, take, drop, Bool, true, false, refl, ap, cond, arith, ◌∙◌, add-one, add_comm}
+use Rattle.std.proofs.Common.{◌≡◌, ℕ, ◌+◌, List, [], ◌∷◌, ◌++◌, length, take, Bool, true, false, refl, ap, cond, arith, ◌∙◌, add-one, add_comm}
 use Rattle.std.specs.Prelude.{◌≢◌, ◌&&◌}
 use Rattle.std.specs.List.{list_all, prefix_len}
 use Rattle.std.proofs.lemmas.Bool.Decides.{nat_tests}
-use Rattle.es_run.specs.Characters.{is_separator, is_name_part, is_digit}
+use Rattle.es_run.specs.Characters.{is_separator, is_name_part}
 
 -- a character of a name is no separator and none of the punctuators
 pub record IsPlain (c : ℕ) : Type 0 where

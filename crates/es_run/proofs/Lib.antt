@@ -1,11 +1,14 @@
 pub mod Ascii
 pub mod CharacterLemmas
-pub mod Debuggers
 pub mod FreshLemmas
 pub mod InsideLemmas
+pub mod Kits
+pub mod Orders
+pub mod Parts
 pub mod Parsing
 pub mod Programs
 pub mod ReportLemmas
+pub mod RunLemmas
 pub mod Sequences
 pub mod Statements
 pub mod StylishLemmas

@@ -1,15 +1,15 @@
 -- What the parser's steps give, as its code has the texts and numbers.
-use Rattle.std.proofs.Common.{◌≡◌, ℕ, zero, suc, ◌+◌, ◌-◌, ◌<◌, ◌≤◌, List, [], ◌∷◌, ◌++◌, length, drop, true, false, get_or, refl, sym, ap, subst, arith, ◌∙◌, length-append}
-use Rattle.std.specs.Prelude.{Option, Some, None, slice_get}
+use Rattle.std.proofs.Common.{◌≡◌, ℕ, zero, suc, ◌+◌, ◌<◌, ◌≤◌, List, [], ◌∷◌, ◌++◌, length, drop, true, false, get_or, refl, sym, ap, subst, arith, ◌∙◌, length-append}
+use Rattle.std.specs.Prelude.{Some, slice_get}
 use Rattle.std.proofs.Math.Seq.{drop-append_seam}
 use Rattle.es_tree.specs.declared.shape.Shape.{Shape}
 use Rattle.es_tree.specs.declared.kind.TheConstants.{EMPTY_STATEMENT, BLOCK_STATEMENT}
 use Rattle.es_tree.specs.Shapes.{height}
 use Rattle.es_run.specs.Characters.{is_separator}
-use Rattle.es_run.specs.SmallText.{Statement, Statements, leaf, with_children}
+use Rattle.es_run.specs.SmallText.{leaf, with_children}
 use Rattle.es_run.specs.Reading.{greatest_height, BeginsWith, BeginsWithNone, BeginsWithAll, NoStatements, Stops}
 use Rattle.es_run.proofs.Statements.{first_is, semicolon_found, block_found, block_open, block_unread, block_too_deep}
-use Rattle.es_run.proofs.Sequences.{ReadSoFar, MayBegin, read_nothing, read_separator, read_statement, read_all, read_none, statement_some}
+use Rattle.es_run.proofs.Sequences.{ReadSoFar, MayBegin, read_separator, read_statement, read_all, read_none, statement_some}
 
 get-append : (front behind : List ℕ) → slice_get (front ++ behind) (length front) ≡ slice_get behind 0
 get-append [] behind = refl

@@ -1,5 +1,5 @@
 -- When a whole text is statements, and when it is not.
-use Rattle.std.proofs.Common.{◌≡◌, ℕ, ◌+◌, ◌<◌, ◌≤◌, List, [], ◌∷◌, ◌++◌, length, refl, sym, ap, subst, arith, ◌∙◌, append-nil, length-append}
+use Rattle.std.proofs.Common.{◌≡◌, ℕ, ◌<◌, ◌≤◌, List, [], ◌∷◌, ◌++◌, length, refl, sym, ap, subst, arith, ◌∙◌, append-nil, length-append}
 use Rattle.es_tree.specs.declared.shape.Shape.{Shape}
 use Rattle.es_run.specs.SmallText.{IsSmallText, most_blocks}
 use Rattle.es_run.specs.Reading.{BeginsWithAll, NoStatements}

@@ -1,12 +1,11 @@
 -- Statements that are read one after the other.
 use Rattle.std.proofs.Common.{◌≡◌, ℕ, ◌+◌, List, [], ◌∷◌, ◌++◌, length, Bool, true, false, refl, sym, ap, subst, arith, ◌∙◌, append_assoc, length-append}
 use Rattle.std.specs.Prelude.{◌≢◌}
-use Rattle.std.specs.List.{list_all}
 use Rattle.es_tree.specs.declared.shape.Shape.{Shape}
-use Rattle.es_run.specs.Characters.{is_separator, is_name_part}
-use Rattle.es_run.specs.SmallText.{Statement, Statements, empty, word, block, none, separated, more, word_statement}
+use Rattle.es_run.specs.Characters.{is_separator}
+use Rattle.es_run.specs.SmallText.{Statement, Statements, empty, word, block, none, separated, more}
 use Rattle.es_run.specs.Reading.{BeginsWith, BeginsWithNone, BeginsWithAll, NoStatements, Stops}
-use Rattle.es_run.proofs.Statements.{heads, tails, same_front, same_behind, begins_as_word, block_whole, word_whole}
+use Rattle.es_run.proofs.Statements.{heads, tails, same_behind, begins_as_word, block_whole, word_whole}
 
 -- statements before statements are statements
 pub join : (blocks start : ℕ) (front back : List ℕ) (nodes others : List Shape) → Statements blocks start front nodes →

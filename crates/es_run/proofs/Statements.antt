@@ -1,14 +1,15 @@
 -- How a statement of the small grammar begins, and that what begins so is no other statement.
-use Rattle.std.proofs.Common.{◌≡◌, ℕ, zero, suc, ◌+◌, ◌-◌, ◌≤◌, List, [], ◌∷◌, ◌++◌, length, take, drop, Bool, true, false, refl, sym, ap, subst, cond, arith, ◌∙◌, append_assoc, length-append}
-use Rattle.std.specs.Prelude.{◌≢◌, ◌&&◌, Option, Some, None, codes, slice_get}
+use Rattle.std.proofs.Common.{◌≡◌, ℕ, ◌+◌, List, [], ◌∷◌, ◌++◌, length, take, drop, true, refl, sym, ap, subst, cond, arith, ◌∙◌, append_assoc, length-append}
+use Rattle.std.specs.Prelude.{Some, None, slice_get}
 use Rattle.std.specs.List.{list_all, prefix_len}
 use Rattle.std.proofs.Math.Seq.{take-append_seam, drop-append_seam}
+use Rattle.std.proofs.lemmas.Bool.{and_parts}
 use Rattle.es_tree.specs.declared.shape.Shape.{Shape}
 use Rattle.es_tree.specs.declared.kind.TheConstants.{EMPTY_STATEMENT, BLOCK_STATEMENT}
 use Rattle.es_run.specs.Characters.{is_separator, is_name_part}
-use Rattle.es_run.specs.SmallText.{Statement, Statements, empty, word, block, none, separated, more, word_statement, leaf, with_children}
-use Rattle.es_run.specs.Reading.{BeginsWith, BeginsWithNone, BeginsWithAll, NoStatements, Stops}
-use Rattle.es_run.proofs.CharacterLemmas.{IsPlain, name_part_plain, prefix_len-run, list_all-front, separator_no_part}
+use Rattle.es_run.specs.SmallText.{Statement, Statements, empty, word, block, word_statement, leaf, with_children}
+use Rattle.es_run.specs.Reading.{BeginsWith, BeginsWithNone, BeginsWithAll, NoStatements}
+use Rattle.es_run.proofs.CharacterLemmas.{IsPlain, name_part_plain, prefix_len-run, separator_no_part}
 
 -- lists: equal heads, equal tails, equal halves
 pub heads : {c d : ℕ} {cs ds : List ℕ} → c ∷ cs ≡ d ∷ ds → c ≡ d
@@ -35,16 +36,12 @@ no_empty_word : (start end : ℕ) (node : Shape) → word_statement [] start end
 unfolding word_statement
 no_empty_word start end node h = absurd (cc)
 
-and_first : (a b : Bool) → a && b ≡ true → a ≡ true
-and_first true b h = refl
-and_first false b h = h
-
 -- a word begins with a character of a name
 pub begins_as_word : (name rest : List ℕ) (start end : ℕ) (node : Shape) (c : ℕ) (cs : List ℕ) → list_all is_name_part name ≡ true →
     word_statement name start end ≡ Some node → c ∷ cs ≡ name ++ rest → IsPlain c
 begins_as_word [] rest start end node c cs all is e = absurd (no_empty_word start end node is)
 begins_as_word (d ∷ name) rest start end node c cs all is e =
-    subst IsPlain (sym (heads e)) (name_part_plain d (and_first (is_name_part d) (list_all is_name_part name) all))
+    subst IsPlain (sym (heads e)) (name_part_plain d ((and_parts (is_name_part d) (list_all is_name_part name) all).0))
 
 -- what stands in front of a semicolon in a text that begins with it
 pub semicolon_only : (blocks start : ℕ) (others first rest : List ℕ) (node : Shape) → 59 ∷ others ≡ first ++ rest →
@@ -70,7 +67,7 @@ semicolon_found blocks start others = record {
 gap_no_part : (gap rest : List ℕ) → list_all is_separator gap ≡ true → prefix_len is_name_part (gap ++ 59 ∷ rest) ≡ 0
 gap_no_part [] rest all = refl
 gap_no_part (c ∷ gap) rest all =
-    ap (λ b. cond b (1 + prefix_len is_name_part (gap ++ 59 ∷ rest)) 0) (separator_no_part c (and_first (is_separator c) (list_all is_separator gap) all))
+    ap (λ b. cond b (1 + prefix_len is_name_part (gap ++ 59 ∷ rest)) 0) (separator_no_part c ((and_parts (is_separator c) (list_all is_separator gap) all).0))
 
 -- the word in front is as long as the run of its characters
 pub word_length : (text name gap rest : List ℕ) → list_all is_name_part name ≡ true → list_all is_separator gap ≡ true →

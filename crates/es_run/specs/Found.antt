@@ -1,5 +1,5 @@
 -- What the parser answers of the front of a text.
-use Rattle.std.specs.Prelude.{ℕ, ◌≤◌, ◌<◌, List, length, Option, Some, None}
+use Rattle.std.specs.Prelude.{ℕ, List, Option, Some, None}
 use Rattle.es_run.specs.declared.small.One.{One}
 use Rattle.es_run.specs.declared.small.Several.{Several}
 use Rattle.es_run.specs.Reading.{BeginsWith, BeginsWithNone, BeginsWithAll, NoStatements}

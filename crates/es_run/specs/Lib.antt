@@ -2,6 +2,8 @@ pub mod Characters
 pub mod Found
 pub mod Fresh
 pub mod Inside
+pub mod Kits
+pub mod Order
 pub mod Reading
 pub mod SmallText
 pub mod Stages

@@ -1,5 +1,5 @@
 -- What is read of a text from its front, and that nothing else can be.
-use Rattle.std.specs.Prelude.{◌≡◌, ℕ, ◌+◌, ◌≤◌, max, List, [], ◌∷◌, ◌++◌, length}
+use Rattle.std.specs.Prelude.{◌≡◌, ℕ, max, List, [], ◌∷◌, ◌++◌, length}
 use Rattle.es_tree.specs.declared.shape.Shape.{Shape}
 use Rattle.es_tree.specs.Shapes.{height}
 use Rattle.es_run.specs.SmallText.{Statement, Statements}

@@ -2,6 +2,7 @@
 #![tactic(auto)]
 
 mod characters;
+mod order;
 mod report;
 mod runner;
 mod small;
@@ -13,4 +14,4 @@ pub use runner::run;
 pub use status::{Status, StopCause, status_code};
 
 #[cfg(test)]
-mod tests;
+mod order_tests;

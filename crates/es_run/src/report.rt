@@ -1,38 +1,50 @@
 //! The report on one file.
-ghost use Rattle.std.specs.Prelude.{◌≡◌, ◌≤◌, true, IfOk, length, map, string_bytes};
+ghost use Rattle.std.specs.Prelude.{◌≡◌, ◌≤◌, ◌⊎◌, [], true, unwrap_or, IfOk, MatchOption, length, map};
 ghost use Rattle.std.specs.List.{list_all};
 ghost use Rattle.std.specs.Str.{IsAscii};
 ghost use Rattle.es_text.specs.Texts.{text_bytes, text_of};
-ghost use Rattle.es_run.specs.Fresh.{debuggers_of, problem_at};
-ghost use Rattle.es_run.specs.Inside.{is_inside};
+ghost use Rattle.es_host.specs.Kits.{SameRules};
+ghost use Rattle.es_host.specs.Reports.{kit_says};
+ghost use Rattle.es_host.specs.Spans.{is_part};
+ghost use Rattle.es_run.specs.Fresh.{problem_of};
+ghost use Rattle.es_run.specs.Kits.{ticked};
 ghost use Rattle.es_run.specs.Stages.{Reports};
 
+use crate::order::in_order;
 use crate::small::parse;
 use crate::stylish::{Problem, stylish};
-use es_text::{NoMemory, Source, SourceFault, Span, Txt};
-use es_tree::{Tree, kind};
+use es_host::{Kit, Rule, listen};
+use es_text::{NoMemory, Report, Source, SourceFault, Txt};
 use std::alloc::Global;
 
 /// The stylish report, and whether it has no problem.
 #[derive(Drop)]
-pub(crate) struct Report {
+pub(crate) struct Outcome {
     pub(crate) text: String,
     pub(crate) clean: bool,
 }
 
-/// The report on the bytes of a file of this name, or `None` where they are no small text.
-pub(crate) fn report_on(alloc: Global, name: &str, bytes: &[u8]) -> Result<Option<Report>, NoMemory>
+/// What the kit says of the bytes of a file of this name, or `None` where they are no small text.
+pub(crate) fn report_on<R: Rule>(
+    alloc: Global,
+    name: &str,
+    bytes: &[u8],
+    kit: &mut Kit<R>,
+) -> Result<Option<Outcome>, NoMemory>
     requires { length bytes.now ≤ 65536 }
-    ensures { IfOk result (Reports name.now bytes.now) }
+    ensures report { IfOk result (Reports (kit_says R.id R.says kit.old) name.now bytes.now) }
+    ensures same { SameRules R.id R.interest R.says kit.new.rules kit.old.rules }
+    ensures lints { IfOk result (λ found. MatchOption found (kit.new.lints ≡ kit.old.lints) (λ _. kit.new.lints ≡ ticked kit.old.lints)) }
+    ensures once { (kit.new.lints ≡ kit.old.lints) ⊎ (kit.new.lints ≡ ticked kit.old.lints) }
 {
     let Some(tree) = parse(alloc, bytes)? else {
         return Ok(None);
     };
     let source = source_of(alloc, bytes)?;
-    let spans = debuggers_of(alloc, &tree)?;
-    let said = problems_at(alloc, &source, spans.as_slice())?;
+    let reports = in_order(alloc, listen(alloc, &source, &tree, kit)?)?;
+    let said = problems_of(alloc, &source, reports)?;
     let problems = said.as_slice();
-    Ok(Some(Report {
+    Ok(Some(Outcome {
         text: stylish(alloc, name, problems)?,
         clean: problems.is_empty(),
     }))
@@ -51,42 +63,46 @@ fn source_of(alloc: Global, bytes: &[u8]) -> Result<Source, NoMemory>
     }
 }
 
-/// The spans of the `debugger` statements, in order.
-fn debuggers_of(alloc: Global, tree: &Tree) -> Result<Vec<Span>, NoMemory>
-    ensures { IfOk result (λ spans. spans.items ≡ debuggers_of tree.now) }
+/// The id of a report's rule, which is empty where no rule made the report.
+fn rule_id(alloc: Global, rule: Option<Txt>) -> Result<Txt, NoMemory>
+    ensures { IfOk result (λ id. id ≡ unwrap_or rule []) }
 {
-    let mut spans = Vec::new(alloc);
-    for node in 0..tree.count() {
-        if tree.kind(node) == kind::DEBUGGER_STATEMENT {
-            spans.push(tree.span(node))?;
-        }
+    match rule {
+        Some(id) => Ok(id),
+        None => Txt::new(alloc, ""),
     }
-    Ok(spans)
 }
 
-/// What the rule no-debugger says of a statement of this span.
-#[tactic(auto, using(crate::proofs::Debuggers::message_chars, crate::proofs::Debuggers::rule_chars))]
-fn problem_at(alloc: Global, source: &Source, span: Span) -> Result<Problem, NoMemory>
-    requires ascii { IsAscii (text_bytes source.now) }
-    requires inside { is_inside (length (text_bytes source.now)) span ≡ true }
-    ensures { IfOk result (λ problem. problem ≡ problem_at source.now.characters span) }
+/// What is printed of a report on the source.
+fn problem_of(alloc: Global, source: &Source, report: Report) -> Result<Problem, NoMemory>
+    requires { is_part (text_bytes source.now) report.span ≡ true }
+    ensures { IfOk result (λ problem. problem ≡ problem_of source.now.characters report) }
 {
+    let Report {
+        rule,
+        text,
+        span,
+        ..
+    } = report;
     Ok(Problem {
         place: source.place(span.start),
-        text: Txt::new(alloc, "Unexpected 'debugger' statement.")?,
-        rule: Txt::new(alloc, "no-debugger")?,
+        text,
+        rule: rule_id(alloc, rule)?,
     })
 }
 
-/// What the rule no-debugger says of the statements of these spans.
-fn problems_at(alloc: Global, source: &Source, spans: &[Span]) -> Result<Vec<Problem>, NoMemory>
-    requires ascii { IsAscii (text_bytes source.now) }
-    requires inside { list_all (λ span. is_inside (length (text_bytes source.now)) span) spans.now ≡ true }
-    ensures { IfOk result (λ problems. problems.items ≡ map (problem_at source.now.characters) spans.now) }
+/// What is printed of the reports on the source.
+fn problems_of(
+    alloc: Global,
+    source: &Source,
+    reports: Vec<Report>,
+) -> Result<Vec<Problem>, NoMemory>
+    requires { list_all (λ report. is_part (text_bytes source.now) report.span) reports.items ≡ true }
+    ensures { IfOk result (λ problems. problems.items ≡ map (problem_of source.now.characters) reports.items) }
 {
     let mut problems = Vec::new(alloc);
-    for span in spans {
-        problems.push(problem_at(alloc, source, *span)?)?;
+    for report in reports {
+        problems.push(problem_of(alloc, source, report)?)?;
     }
     Ok(problems)
 }

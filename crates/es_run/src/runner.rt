@@ -2,15 +2,17 @@
 ghost use Rattle.std.specs.Prelude.{◌≡◌, ◌≤◌, ◌⊎◌, ℕ, List, [], Some, Err, map, string_bytes, length, OnOk, IfOk, IfErr};
 ghost use Rattle.std.specs.Cow.{cow_str_bytes};
 ghost use Rattle.es_files.specs.Outside.{GotPart, Held, Rose, with_sent};
-ghost use Rattle.es_run.specs.Stages.{Blames, GivesFresh, GivesPart, IfCannotRead, IsDone, IsSettled, IsSilent, IsTold, IsUnread, LintsFresh, Reports, done_status, fault_of};
+ghost use Rattle.es_run.specs.Kits.{SameKits, first_says, first_ticked, lints_of};
+ghost use Rattle.es_run.specs.Stages.{Blames, GivesFresh, GivesPart, IfCannotRead, IsDone, IsReported, IsSettled, IsSilent, IsTold, IsUnread, LintsFresh, Listened, Reports, done_status, fault_of};
 ghost use Rattle.es_run.specs.Statuses.{fault_line, line_about};
 ghost use Rattle.es_run.specs.Words.{NoName};
 ghost use Rattle.es_run.specs.declared.status.StopCause.{StopCause};
 
-use crate::report::{Report, report_on};
+use crate::report::{Outcome, report_on};
 use crate::status::{Fault, Status, StopCause};
 use crate::words::name_of;
 use es_files::{Files, ReadFault, Sink, SinkFault};
+use es_host::{Kit, Rule};
 use es_text::{NoMemory, Txt};
 use std::alloc::Global;
 use std::borrow::CowStr;
@@ -94,10 +96,18 @@ fn refuse<E: Sink>(alloc: Global, cause: StopCause, err: &mut E) -> Status
     }
 }
 
-/// The report on the file that the words name.
-fn lint<F: Files>(alloc: Global, words: &[String], files: &mut F) -> Result<Report, Fault>
+/// What the first kit says of the file that the words name.
+fn lint<R: Rule, F: Files>(
+    alloc: Global,
+    words: &[String],
+    kits: &mut Vec<Kit<R>>,
+    files: &mut F,
+) -> Result<Outcome, Fault>
+    requires { 1 ≤ length kits.old.items }
     ensures same { F.holds files.new ≡ F.holds files.old }
-    ensures fresh { (held : Held) → F.holds files.old ≡ Some held → LintsFresh (map string_bytes words.now) held result }
+    ensures kits { SameKits R.id R.interest R.says kits.old.items kits.new.items }
+    ensures lints { Listened result (lints_of kits.old.items) (lints_of kits.new.items) }
+    ensures fresh { (held : Held) → F.holds files.old ≡ Some held → LintsFresh (first_says R.id R.says kits.old.items) (map string_bytes words.now) held result }
     ensures blame { IfErr result (Blames (map string_bytes words.now) (F.faults files.old) (F.faults files.new) (F.failed files.new)) }
     ensures still { OnOk result (F.faults files.new ≡ F.faults files.old) }
     ensures words { NoName (map string_bytes words.now) → result ≡ Err (Fault.Stop StopCause.BadWords) }
@@ -111,25 +121,25 @@ fn lint<F: Files>(alloc: Global, words: &[String], files: &mut F) -> Result<Repo
         Ok(bytes) => bytes,
         Err(fault) => return Err(fault_of(fault, name)),
     };
-    match report_on(alloc, word, bytes.as_slice())? {
-        Some(report) => Ok(report),
+    match report_on(alloc, word, bytes.as_slice(), &mut kits[0])? {
+        Some(outcome) => Ok(outcome),
         None => Err(Fault::Stop(StopCause::NotYet { name })),
     }
 }
 
 /// Prints the report, as one piece.
-fn print<O: Sink, E: Sink>(alloc: Global, report: &Report, out: &mut O, err: &mut E) -> Status
-    ensures status { (result ≡ done_status report.now.clean) ⊎ ((result ≡ Status.Stopped StopCause.CannotPrint) ⊎ (result ≡ Status.NoMemory)) }
-    ensures done { result ≡ done_status report.now.clean → O.got out.new ≡ with_sent (O.got out.old) (string_bytes report.now.text) }
-    ensures count { result ≡ done_status report.now.clean → O.faults out.new ≡ O.faults out.old }
-    ensures quiet { result ≡ done_status report.now.clean → E.got err.new ≡ E.got err.old }
-    ensures part { result ≡ Status.Stopped StopCause.CannotPrint → GotPart (O.got out.old) (string_bytes report.now.text) (O.got out.new) }
+fn print<O: Sink, E: Sink>(alloc: Global, outcome: &Outcome, out: &mut O, err: &mut E) -> Status
+    ensures status { (result ≡ done_status outcome.now.clean) ⊎ ((result ≡ Status.Stopped StopCause.CannotPrint) ⊎ (result ≡ Status.NoMemory)) }
+    ensures done { result ≡ done_status outcome.now.clean → O.got out.new ≡ with_sent (O.got out.old) (string_bytes outcome.now.text) }
+    ensures count { result ≡ done_status outcome.now.clean → O.faults out.new ≡ O.faults out.old }
+    ensures quiet { result ≡ done_status outcome.now.clean → E.got err.new ≡ E.got err.old }
+    ensures part { result ≡ Status.Stopped StopCause.CannotPrint → GotPart (O.got out.old) (string_bytes outcome.now.text) (O.got out.new) }
     ensures cause { result ≡ Status.Stopped StopCause.CannotPrint → Rose (O.faults out.old) (O.faults out.new) }
     ensures told { result ≡ Status.Stopped StopCause.CannotPrint → IsTold (E.got err.old) (E.got err.new) (E.faults err.old) (E.faults err.new) (fault_line StopCause.CannotPrint) }
-    ensures no_memory { result ≡ Status.NoMemory → (O.got out.new ≡ O.got out.old) ⊎ (GotPart (O.got out.old) (string_bytes report.now.text) (O.got out.new) × Rose (O.faults out.old) (O.faults out.new)) }
+    ensures no_memory { result ≡ Status.NoMemory → (O.got out.new ≡ O.got out.old) ⊎ (GotPart (O.got out.old) (string_bytes outcome.now.text) (O.got out.new) × Rose (O.faults out.old) (O.faults out.new)) }
 {
-    match out.write(alloc, report.text.as_bytes()) {
-        Ok(()) => done(report.clean),
+    match out.write(alloc, outcome.text.as_bytes()) {
+        Ok(()) => done(outcome.clean),
         Err(SinkFault::Failed) => refuse(alloc, StopCause::CannotPrint, err),
         Err(SinkFault::NoMemory) => no_memory(alloc, err),
     }
@@ -146,20 +156,23 @@ fn done(clean: bool) -> Status
     }
 }
 
-/// Lints the file that the words name, and prints its report. The program's own name is none of the
-/// words.
-pub fn run<F: Files, O: Sink, E: Sink>(
+/// Lints the file that the words name with the first kit, and prints the report. The program's own
+/// name is none of the words.
+pub fn run<R: Rule, F: Files, O: Sink, E: Sink>(
     alloc: Global,
     words: &[String],
+    kits: &mut Vec<Kit<R>>,
     files: &mut F,
     out: &mut O,
     err: &mut E,
 ) -> Status
+    requires kits { 1 ≤ length kits.old.items }
+
     // The files are only read.
     ensures files { F.holds files.new ≡ F.holds files.old }
 
     // A settled status comes with the output and the line of a fresh run, and a fresh run gives nothing else.
-    ensures fresh { IsSettled result → (held : Held) → F.holds files.old ≡ Some held → GivesFresh (map string_bytes words.now) held result (O.got out.old) (O.got out.new) (E.got err.old) (E.got err.new) (E.faults err.old) (E.faults err.new) }
+    ensures fresh { IsSettled result → (held : Held) → F.holds files.old ≡ Some held → GivesFresh (first_says R.id R.says kits.old.items) (map string_bytes words.now) held result (O.got out.old) (O.got out.new) (E.got err.old) (E.got err.new) (E.faults err.old) (E.faults err.new) }
 
     // Without a fault of the outside the status is settled, or memory was wanting.
     ensures complete { (Rose (F.faults files.old) (F.faults files.new) → ⊥) → (Rose (O.faults out.old) (O.faults out.new) → ⊥) → IsSettled result ⊎ (result ≡ Status.NoMemory) }
@@ -171,7 +184,7 @@ pub fn run<F: Files, O: Sink, E: Sink>(
     // A fault of the outside is to blame on a failed call.
     ensures cannot_read { IfCannotRead result (λ name. IsUnread (map string_bytes words.now) name (F.faults files.old) (F.faults files.new) (F.failed files.new)) }
     ensures cannot_print { result ≡ Status.Stopped StopCause.CannotPrint → Rose (O.faults out.old) (O.faults out.new) }
-    ensures part { result ≡ Status.Stopped StopCause.CannotPrint → (held : Held) → F.holds files.old ≡ Some held → GivesPart (map string_bytes words.now) held (O.got out.old) (O.got out.new) }
+    ensures part { result ≡ Status.Stopped StopCause.CannotPrint → (held : Held) → F.holds files.old ≡ Some held → GivesPart (first_says R.id R.says kits.old.items) (map string_bytes words.now) held (O.got out.old) (O.got out.new) }
 
     // Each cause has its line, and a run that prints its report tells nothing.
     ensures told { (cause : StopCause) → result ≡ Status.Stopped cause → IsTold (E.got err.old) (E.got err.new) (E.faults err.old) (E.faults err.new) (fault_line cause) }
@@ -181,10 +194,16 @@ pub fn run<F: Files, O: Sink, E: Sink>(
     ensures silent { IsSilent result → (O.got out.new ≡ O.got out.old) × (O.faults out.new ≡ O.faults out.old) }
     ensures counts { IsDone result → (F.faults files.new ≡ F.faults files.old) × (O.faults out.new ≡ O.faults out.old) }
     ensures no_memory { result ≡ Status.NoMemory → (O.got out.new ≡ O.got out.old) ⊎ Rose (O.faults out.old) (O.faults out.new) }
-    ensures no_more { result ≡ Status.NoMemory → (held : Held) → F.holds files.old ≡ Some held → (O.got out.new ≡ O.got out.old) ⊎ GivesPart (map string_bytes words.now) held (O.got out.old) (O.got out.new) }
+    ensures no_more { result ≡ Status.NoMemory → (held : Held) → F.holds files.old ≡ Some held → (O.got out.new ≡ O.got out.old) ⊎ GivesPart (first_says R.id R.says kits.old.items) (map string_bytes words.now) held (O.got out.old) (O.got out.new) }
+
+    // What a run makes of the kits: the first listens once where there is a report, and no other ever does.
+    ensures kits { SameKits R.id R.interest R.says kits.old.items kits.new.items }
+    ensures listens { IsReported result → lints_of kits.new.items ≡ first_ticked (lints_of kits.old.items) }
+    ensures rests { IsSilent result → lints_of kits.new.items ≡ lints_of kits.old.items }
+    ensures once { (lints_of kits.new.items ≡ lints_of kits.old.items) ⊎ (lints_of kits.new.items ≡ first_ticked (lints_of kits.old.items)) }
 {
-    match lint(alloc, words, files) {
-        Ok(report) => print(alloc, &report, out, err),
+    match lint(alloc, words, kits, files) {
+        Ok(outcome) => print(alloc, &outcome, out, err),
         Err(Fault::Stop(cause)) => refuse(alloc, cause, err),
         Err(Fault::NoMemory) => no_memory(alloc, err),
     }

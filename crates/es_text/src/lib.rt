@@ -1,6 +1,7 @@
 //! The words that every layer above speaks in: texts, places in them, lists, and want of memory.
 #![tactic(auto)]
 
+mod finding;
 mod items;
 mod memory;
 mod source;
@@ -9,6 +10,7 @@ mod span;
 mod tests;
 mod txt;
 
+pub use finding::{Finding, Fix, Report, Severity};
 pub use items::{Items, push_at};
 pub use memory::NoMemory;
 pub use source::{MOST_BYTES, MOST_TEXT_BYTES, Source, SourceFault};

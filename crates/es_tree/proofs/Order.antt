@@ -1,5 +1,5 @@
 -- In a numbered tree each child comes after its parent, and each node but the first has a parent.
-use Rattle.std.proofs.Common.{◌≡◌, ◌∙◌, ℕ, zero, suc, ◌+◌, ◌<◌, ◌≤◌, List, [], ◌∷◌, ◌++◌, Option, Some, None, length, sym, ap, refl, subst, arith, length-append}
+use Rattle.std.proofs.Common.{◌≡◌, ◌∙◌, ◌⊎◌, inl, inr, ℕ, zero, suc, ◌+◌, ◌<◌, ◌≤◌, List, [], ◌∷◌, ◌++◌, Option, Some, None, length, sym, ap, refl, subst, arith, length-append}
 use Rattle.std.specs.Prelude.{slice_get, IfSome}
 use Rattle.es_tree.specs.Numbers.{rows_in, numbers_in, rows_of_all, numbers_of_all, filled, all_filled, row_of, numbered, rows_of}
 use Rattle.es_tree.specs.Rows.{parent_of, child_of, IsNumbered}
@@ -26,11 +26,86 @@ abbrev Below : ℕ → List Row → Type 0
 Below at [] = Unit {0}
 Below at (row ∷ rest) = ((parent : ℕ) × (row.parent ≡ Some parent) × (parent < at)) × Below (at + 1) rest
 
+-- each of the rows has a parent, and this fact holds of it
+abbrev Parents : (ℕ → Type 0) → List Row → Type 0
+Parents P [] = Unit {0}
+Parents P (row ∷ rest) = ((parent : ℕ) × (row.parent ≡ Some parent) × P parent) × Parents P rest
+
+-- of the rows, of which the first has the number `at`, none has a parent before that of a row that stands between
+abbrev Nested : ℕ → List Row → Type 0
+Nested at [] = Unit {0}
+Nested at (row ∷ rest) =
+    ((above : ℕ) → row.parent ≡ Some above → Parents (λ parent. parent < at → parent ≤ above) rest) × Nested (at + 1) rest
+
+-- the rows, of which the first has the number `at`, are those of children of the node `low` and of all below them
+abbrev Inside : ℕ → ℕ → List Row → Type 0
+Inside low at rows = Parents (λ parent. (parent ≡ low) ⊎ (at ≤ parent)) rows × Nested at rows
+
 -- the rows of one node, whose number is `at`, and of all below it
 abbrev Sound : Option ℕ → ℕ → List Row → Type 0
 Sound parent at [] = ⊥
 Sound parent at (row ∷ rest) =
-    (row.parent ≡ parent) × Below (at + 1) rest × Ordered at (at + length (row ∷ rest)) (row ∷ rest)
+    (row.parent ≡ parent) × Below (at + 1) rest × Ordered at (at + length (row ∷ rest)) (row ∷ rest) × Inside at (at + 1) rest
+
+Parents-weaker : (P Q : ℕ → Type 0) (rows : List Row) → ((parent : ℕ) → P parent → Q parent) → Parents P rows → Parents Q rows
+Parents-weaker P Q [] weaker parents = tt
+Parents-weaker P Q (row ∷ rest) weaker parents =
+    ((parents.0.0, parents.0.1, weaker parents.0.0 parents.0.2), Parents-weaker P Q rest weaker parents.1)
+
+Parents-append : (P : ℕ → Type 0) (first second : List Row) → Parents P first → Parents P second → Parents P (first ++ second)
+Parents-append P [] second f s = s
+Parents-append P (row ∷ rest) second f s = (f.0, Parents-append P rest second f.1 s)
+
+from_low : (low at parent : ℕ) → low < at → (parent ≡ low) ⊎ (at ≤ parent) → low ≤ parent
+from_low low at parent before (inl same) = omega (arith, same)
+from_low low at parent before (inr after) = omega (arith, after)
+
+from_lower : (low at next parent : ℕ) → at ≤ next → (parent ≡ low) ⊎ (next ≤ parent) → (parent ≡ low) ⊎ (at ≤ parent)
+from_lower low at next parent before (inl same) = inl same
+from_lower low at next parent before (inr after) = inr (omega (arith, after))
+
+not_between : (low at next parent above : ℕ) → at ≤ next → low ≤ above → (parent ≡ low) ⊎ (next ≤ parent) → parent < at → parent ≤ above
+not_between low at next parent above before least (inl same) within = omega (arith, same)
+not_between low at next parent above before least (inr after) within = omega (arith, after, within)
+
+Nested-append : (low at next : ℕ) (first second : List Row) → next ≡ at + length first
+    → Parents (λ parent. low ≤ parent) first → Nested at first
+    → Parents (λ parent. (parent ≡ low) ⊎ (next ≤ parent)) second → Nested next second → Nested at (first ++ second)
+Nested-append low at next [] second is parents f later s = let same : next ≡ at = omega (arith, is) in subst (λ (n : ℕ). Nested n second) same s
+Nested-append low at next (row ∷ rest) second is parents f later s = (
+  λ above own.
+      let least : low ≤ above = let same : parents.0.0 ≡ above = cc in omega (arith, same, parents.0.2) in
+      Parents-append (λ parent. parent < at → parent ≤ above) rest second (f.0 above own)
+      (Parents-weaker (λ parent. (parent ≡ low) ⊎ (next ≤ parent)) (λ parent. parent < at → parent ≤ above) second
+      (λ parent. not_between low at next parent above (omega (arith, is)) least) later),
+  Nested-append low (at + 1) next rest second (omega (arith, is)) parents.1 f.1 later s,
+)
+
+Inside-append : (low at : ℕ) (first second : List Row) → low < at → Inside low at first → Inside low (at + length first) second → Inside low at (first ++ second)
+Inside-append low at first second before f s =
+    let next : ℕ = at + length first in (
+      Parents-append (λ parent. (parent ≡ low) ⊎ (at ≤ parent)) first second f.0
+          (Parents-weaker (λ parent. (parent ≡ low) ⊎ (next ≤ parent)) (λ parent. (parent ≡ low) ⊎ (at ≤ parent)) second
+          (λ parent. from_lower low at next parent (omega arith)) s.0),
+      Nested-append low at next first second refl
+          (Parents-weaker (λ parent. (parent ≡ low) ⊎ (at ≤ parent)) (λ parent. low ≤ parent) first (λ parent. from_low low at parent before) f.0)
+          f.1 s.0 s.1,
+    )
+
+Sound-inside : (parent at : ℕ) (rows : List Row) → parent < at → Sound (Some parent) at rows → Inside parent at rows
+Sound-inside parent at [] before sound = absurd sound
+Sound-inside parent at (row ∷ rest) before sound = (
+  (
+    (parent, sound.0, inl refl),
+    Parents-weaker (λ p. (p ≡ at) ⊎ (at + 1 ≤ p)) (λ p. (p ≡ parent) ⊎ (at ≤ p)) rest
+        (λ p either. inr (from_low at (at + 1) p (omega arith) either)) sound.3.0,
+  ),
+  (
+    λ above own. Parents-weaker (λ p. (p ≡ at) ⊎ (at + 1 ≤ p)) (λ p. p < at → p ≤ above) rest
+        (λ p either within. absurd (omega (arith, within, from_low at (at + 1) p (omega arith) either))) sound.3.0,
+    sound.3.1,
+  ),
+)
 
 Within-wider : (low high low' high' : ℕ) (numbers : List ℕ) → low' ≤ low → high ≤ high' → Within low high numbers → Within low' high' numbers
 Within-wider low high low' high' [] l h within = tt
@@ -82,11 +157,13 @@ abbrev shapes : List (List (Option Known)) → List (List (Option Shape))
 shapes = former-Shape-fields.map Known Shape (λ known. known.0)
 
 -- what the rows of several children, from the number `next` on, and their numbers keep
-abbrev Kept : ℕ → List Row → List ℕ → Type 0
-Kept next rows numbers = Below next rows × Ordered next (next + length rows) rows × Within next (next + length rows) numbers
+abbrev Kept : ℕ → ℕ → List Row → List ℕ → Type 0
+Kept parent next rows numbers =
+    Below next rows × Ordered next (next + length rows) rows × Within next (next + length rows) numbers × Inside parent next rows
 
-Kept-append : (next : ℕ) (first second : List Row) (ns ms : List ℕ) → Kept next first ns → Kept (next + length first) second ms → Kept next (first ++ second) (ns ++ ms)
-Kept-append next first second ns ms f s =
+Kept-append : (parent next : ℕ) (first second : List Row) (ns ms : List ℕ) → parent < next
+    → Kept parent next first ns → Kept parent (next + length first) second ms → Kept parent next (first ++ second) (ns ++ ms)
+Kept-append parent next first second ns ms before f s =
     let after : ℕ = next + length first in
     let end : ℕ = next + length (first ++ second) in
     let long : length (first ++ second) ≡ length first + length second = length-append first second in (
@@ -97,42 +174,43 @@ Kept-append next first second ns ms f s =
       Within-append next end ns ms
           (Within-wider next (next + length first) next end ns (omega arith) (omega (arith, long)) f.2)
           (Within-wider after (after + length second) next end ms (omega arith) (omega (arith, long)) s.2),
+      Inside-append parent next first second before f.3 s.3,
     )
 
 module _ (parent : ℕ) where
   kept_in : (next : ℕ) (field : List (Option Known)) → parent < next
-      → Kept next (rows_in numbered parent next (shapes_in field)) (filled (numbers_in numbered parent next (shapes_in field)))
-  kept_in next [] before = (tt, tt, tt)
+      → Kept parent next (rows_in numbered parent next (shapes_in field)) (filled (numbers_in numbered parent next (shapes_in field)))
+  kept_in next [] before = (tt, tt, tt, (tt, tt))
   kept_in next (None ∷ rest) before = kept_in next rest before
   kept_in next (Some known ∷ rest) before =
       let own : List Row = numbered known.0 (Some parent) next in
       let sound : Sound (Some parent) next own = known.1 (Some parent) next in
       let some : 0 < length own = Sound-some (Some parent) next own sound in
-      let number : Kept next own (next ∷ []) =
-      (Sound-below parent next own before sound, Sound-ordered (Some parent) next own sound, (omega arith, omega arith, tt)) in
-      Kept-append next own _ (next ∷ []) _ number (kept_in (next + length own) rest (omega arith))
+      let number : Kept parent next own (next ∷ []) =
+      (Sound-below parent next own before sound, Sound-ordered (Some parent) next own sound, (omega arith, omega arith, tt), Sound-inside parent next own before sound) in
+      Kept-append parent next own _ (next ∷ []) _ before number (kept_in (next + length own) rest (omega arith))
 
   kept_of_all : (next : ℕ) (fields : List (List (Option Known))) → parent < next
-      → Kept next (rows_of_all numbered parent next (shapes fields)) (all_filled (numbers_of_all numbered parent next (shapes fields)))
-  kept_of_all next [] before = (tt, tt, tt)
+      → Kept parent next (rows_of_all numbered parent next (shapes fields)) (all_filled (numbers_of_all numbered parent next (shapes fields)))
+  kept_of_all next [] before = (tt, tt, tt, (tt, tt))
   kept_of_all next (field ∷ rest) before =
       let own : List Row = rows_in numbered parent next (shapes_in field) in
-      Kept-append next own _ (filled (numbers_in numbered parent next (shapes_in field))) _
+      Kept-append parent next own _ (filled (numbers_in numbered parent next (shapes_in field))) _ before
       (kept_in next field before) (kept_of_all (next + length own) rest (omega arith))
 
 sound-step : (parent : Option ℕ) (at : ℕ) (node : Shape-F Shape)
-    → Kept (at + 1) (rows_of_all numbered at (at + 1) node.fields) (all_filled (numbers_of_all numbered at (at + 1) node.fields))
+    → Kept at (at + 1) (rows_of_all numbered at (at + 1) node.fields) (all_filled (numbers_of_all numbered at (at + 1) node.fields))
     → Sound parent at (row_of node parent (numbers_of_all numbered at (at + 1) node.fields) ∷ rows_of_all numbered at (at + 1) node.fields)
 sound-step parent at node kept =
     let rows : List Row = rows_of_all numbered at (at + 1) node.fields in
     let end : (at + 1) + length rows ≡ at + length (row_of node parent (numbers_of_all numbered at (at + 1) node.fields) ∷ rows) = omega arith in
     let P : ℕ → Type 0 = λ (n : ℕ). Within (at + 1) n (all_filled (numbers_of_all numbered at (at + 1) node.fields)) × Ordered (at + 1) n rows in
-    (refl, kept.0, subst P end (kept.2, kept.1))
+    (refl, kept.0, subst P end (kept.2, kept.1), kept.3)
 
 always_sound : (shape : Shape) → AlwaysSound shape
 always_sound = ind-Shape AlwaysSound (λ node known is parent at.
-    let kept : Kept (at + 1) (rows_of_all numbered at (at + 1) node.fields) (all_filled (numbers_of_all numbered at (at + 1) node.fields)) =
-    subst (λ (n : Shape-F Shape). Kept (at + 1) (rows_of_all numbered at (at + 1) n.fields) (all_filled (numbers_of_all numbered at (at + 1) n.fields))) is
+    let kept : Kept at (at + 1) (rows_of_all numbered at (at + 1) node.fields) (all_filled (numbers_of_all numbered at (at + 1) node.fields)) =
+    subst (λ (n : Shape-F Shape). Kept at (at + 1) (rows_of_all numbered at (at + 1) n.fields) (all_filled (numbers_of_all numbered at (at + 1) n.fields))) is
     (kept_of_all at (at + 1) known.fields (omega arith)) in
     let layer : numbered (roll-Shape node) parent at
     ≡ row_of node parent (numbers_of_all numbered at (at + 1) node.fields) ∷ rows_of_all numbered at (at + 1) node.fields =
@@ -169,6 +247,28 @@ Below-root at [] node below is = cc
 Below-root at (row ∷ rest) zero below is = let parent : row.parent ≡ Some below.0.0 = below.0.1 in cc
 Below-root at (row ∷ rest) (suc node) below is = Below-root (at + 1) rest node below.1 is
 
+Parents-at : (P : ℕ → Type 0) (rows : List Row) (node parent : ℕ) → Parents P rows → parent_of rows node ≡ Some (Some parent) → P parent
+Parents-at P [] node parent parents is = cc
+Parents-at P (row ∷ rest) zero parent parents is = let same : parents.0.0 ≡ parent = cc in subst P same parents.0.2
+Parents-at P (row ∷ rest) (suc node) parent parents is = Parents-at P rest node parent parents.1 is
+
+Nested-at : (at : ℕ) (rows : List Row) (node parent between above : ℕ) → Nested at rows → parent_of rows node ≡ Some (Some parent)
+    → parent < at + between → between ≤ node → parent_of rows between ≡ Some (Some above) → parent ≤ above
+Nested-at at [] node parent between above nested is after before up = cc
+Nested-at at (row ∷ rest) zero parent zero above nested is after before up = let same : parent ≡ above = cc in omega (arith, same)
+Nested-at at (row ∷ rest) zero parent (suc between) above nested is after before up = absurd (omega (arith, before))
+Nested-at at (row ∷ rest) (suc node) parent zero above nested is after before up =
+    let own : row.parent ≡ Some above = cc in
+    Parents-at (λ p. p < at → p ≤ above) rest node parent (nested.0 above own) is (omega (arith, after))
+Nested-at at (row ∷ rest) (suc node) parent (suc between) above nested is after before up =
+    Nested-at (at + 1) rest node parent between above nested.1 is (omega (arith, after)) (omega (arith, before)) up
+
+nested-by : (row : Row) (rest : List Row) → row.parent ≡ None → Nested 1 rest
+    → (node parent between above : ℕ) → parent_of (row ∷ rest) node ≡ Some (Some parent) → parent < between → between ≤ node
+    → parent_of (row ∷ rest) between ≡ Some (Some above) → parent ≤ above
+nested-by row rest first nested node parent between above is after before up =
+    Nested-at 0 (row ∷ rest) node parent between above (λ above own. cc, nested) is (omega (arith, after)) before up
+
 parents-by : (row : Row) (rest : List Row) → row.parent ≡ None → Below 1 rest
     → (node parent : ℕ) → parent_of (row ∷ rest) node ≡ Some (Some parent) → parent < node
 parents-by row rest first below zero parent is = cc
@@ -194,6 +294,7 @@ numbered-by (row ∷ rest) sound =
       parents = parents-by row rest sound.0 below;
       roots = roots-by row rest below;
       children = children-by (row ∷ rest) sound.2;
+      nested = nested-by row rest sound.0 sound.3.1;
     }
 
 pub is_numbered : (root : Shape) → IsNumbered (rows_of root)

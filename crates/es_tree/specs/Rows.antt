@@ -1,5 +1,5 @@
 -- What the rows of a tree say of a node, which is None where no node has the number.
-use Rattle.std.specs.Prelude.{ℕ, ◌≡◌, ◌<◌, List, Option, None, Some, length, option_map, slice_get}
+use Rattle.std.specs.Prelude.{ℕ, ◌≡◌, ◌<◌, ◌≤◌, List, Option, None, Some, length, option_map, slice_get}
 use Rattle.es_text.specs.declared.span.Span.{Span}
 use Rattle.es_tree.specs.declared.row.Row.{Row}
 
@@ -25,3 +25,6 @@ pub record IsNumbered (rows : List Row) : Type 0 where
   pub roots : (node : ℕ) → parent_of rows node ≡ Some None → node ≡ 0
   pub parents : (node parent : ℕ) → parent_of rows node ≡ Some (Some parent) → parent < node
   pub children : (node index child : ℕ) → child_of rows node index ≡ Some (Some child) → (node < child) × (child < length rows)
+  -- the nodes between a node and its parent stand below that parent, too
+  pub nested : (node parent between above : ℕ) → parent_of rows node ≡ Some (Some parent) → parent < between → between ≤ node
+      → parent_of rows between ≡ Some (Some above) → parent ≤ above

@@ -5,7 +5,7 @@ ghost use Rattle.es_tree.specs.Numbers.{rows_of};
 ghost use Rattle.std.specs.List.{list_all};
 ghost use Rattle.es_text.specs.declared.span.Span.{Span};
 ghost use Rattle.es_tree.specs.Spans.{spans_pass};
-ghost use Rattle.es_tree.specs.Rows.{kind_of, span_of, parent_of, child_of};
+ghost use Rattle.es_tree.specs.Rows.{kind_of, span_of, parent_of, child_of, IsNumbered};
 
 use crate::kind::PROGRAM;
 use crate::node::Node;
@@ -55,6 +55,7 @@ impl Tree {
     pub fn count(&self) -> u32
         ensures count { result ≡ length self.now }
         ensures some { 1 ≤ result }
+        ensures numbered { IsNumbered self.now }
     {
         self.nodes
     }

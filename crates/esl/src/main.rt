@@ -1,26 +1,44 @@
-//! The program `esl`: lints the file that its words name, and ends with the status of the run.
+//! The program `esl`: lints the file that its words name with the rules that it boxes here, and ends with
+//! the status of the run.
 #![tactic(auto)]
 
 ghost use Rattle.std.specs.Prelude.{◌≡◌, ◌≢◌};
 ghost use Rattle.std.specs.IoError.{error_kind};
 
 use es_files::{RealErr, RealFiles, RealOut};
+use es_host::{Kit, Rule};
+use es_rules_plain::NoDebugger;
 use es_run::{Status, StopCause};
+use es_text::NoMemory;
 use std::io::ErrorKind;
 use std::process::ExitCode;
 use std::{env, io};
 
+#[cfg(test)]
+mod tests;
+
 fn main(rt: HostRuntime) -> ExitCode {
     let status = match words(&rt) {
-        Ok(words) => {
-            let mut files = RealFiles::new(&rt);
-            let mut out = RealOut::new(&rt);
-            let mut err = RealErr::new(rt.stderr());
-            es_run::run(rt.alloc(), words.as_slice(), &mut files, &mut out, &mut err)
-        }
+        Ok(words) => match lint(&rt, words.as_slice()) {
+            Ok(status) => status,
+            Err(NoMemory) => no_memory(&rt),
+        },
         Err(error) => refuse(&rt, &error),
     };
     ExitCode::from(es_run::status_code(&status))
+}
+
+/// Makes the kit, the files and the streams, and runs.
+fn lint(rt: &HostRuntime, words: &[String]) -> Result<Status, NoMemory> {
+    let alloc = rt.alloc();
+    let mut rules: Vec<Box<dyn Rule + Send>> = Vec::new(alloc);
+    rules.push(Box::new(alloc, NoDebugger::new(alloc)?)?)?;
+    let mut kits = Vec::new(alloc);
+    kits.push(Kit::new(rules))?;
+    let mut files = RealFiles::new(rt);
+    let mut out = RealOut::new(rt);
+    let mut err = RealErr::new(rt.stderr());
+    Ok(es_run::run(alloc, words, &mut kits, &mut files, &mut out, &mut err))
 }
 
 /// The words after the program's own name.
@@ -34,12 +52,19 @@ fn refuse(rt: &HostRuntime, error: &io::Error) -> Status
     ensures no_memory { error_kind error.now ≡ ErrorKind.OutOfMemory → result ≡ Status.NoMemory }
     ensures bad_words { error_kind error.now ≢ ErrorKind.OutOfMemory → result ≡ Status.Stopped StopCause.BadWords }
 {
-    // A failed write changes nothing else.
     if error.kind() == ErrorKind::OutOfMemory {
-        let _ = eprintln!(rt; "esl: no memory");
-        Status::NoMemory
+        no_memory(rt)
     } else {
+        // A failed write changes nothing else.
         let _ = eprintln!(rt; "esl: bad arguments");
         Status::Stopped(StopCause::BadWords)
     }
+}
+
+/// Tells that memory is wanting, where that can be told.
+fn no_memory(rt: &HostRuntime) -> Status
+    ensures { result ≡ Status.NoMemory }
+{
+    let _ = eprintln!(rt; "esl: no memory");
+    Status::NoMemory
 }

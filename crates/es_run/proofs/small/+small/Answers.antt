@@ -1,5 +1,4 @@
-use Rattle.std.proofs.Common.{◌≡◌, ◌∙◌, ◌+◌, ◌-◌, ◌≤◌, ◌++◌, ◌∷◌, [], length, sym, ap, subst, refl, rules, arith}
-use Rattle.std.proofs.lemmas.Grind.{common_steps}
+use Rattle.std.proofs.Common.{◌∙◌, ◌+◌, ◌-◌, ◌≤◌, sym, ap, subst, refl, arith}
 use Rattle.std.specs.Prelude.{IfSome}
 use Rattle.es_tree.specs.Shapes.{height}
 use Rattle.es_run.specs.SmallText.{with_children}

@@ -1,4 +1,4 @@
-use Rattle.std.proofs.Common.{◌≡◌, ◌∙◌, ◌≤◌, sym, ap, subst, refl, rules, arith, length}
+use Rattle.std.proofs.Common.{◌∙◌, ap, subst, arith, length}
 use Rattle.std.specs.Prelude.{IfSome}
 use Rattle.es_tree.specs.Numbers.{rows_of}
 use Rattle.es_run.specs.Found.{AreFront}

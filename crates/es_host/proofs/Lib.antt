@@ -1,0 +1,5 @@
+pub mod Entries
+pub mod Fits
+pub mod Members
+pub mod Paths
+pub mod Reporting

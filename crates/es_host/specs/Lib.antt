@@ -1,0 +1,5 @@
+pub mod Events
+pub mod Kits
+pub mod Lawful
+pub mod Reports
+pub mod Spans

@@ -1,0 +1,8 @@
+//! Rules that look at one node at a time.
+#![tactic(auto)]
+
+mod no_debugger;
+#[cfg(test)]
+mod tests;
+
+pub use no_debugger::NoDebugger;
