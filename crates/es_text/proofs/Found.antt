@@ -1,14 +1,16 @@
 -- The place that a source finds.
-use Rattle.std.proofs.Common.{◌≡◌, ℕ, ◌+◌, ◌-◌, ◌<◌, ◌≤◌, Bool, true, false, ◌&&◌, List, [], ◌∷◌, ◌++◌, length, get_or, take, drop, leb, leb-true, refl, sym, ap, subst, ◌∙◌, arith, ⊎_elim, append_assoc, zero-add, take-append-drop, encode_utf8_all, IsUtf8}
+use Rattle.std.proofs.Common.{◌≡◌, ℕ, ◌+◌, ◌-◌, ◌<◌, ◌≤◌, Bool, true, false, List, [], ◌∷◌, ◌++◌, length, get_or, take, drop, leb, leb-true, sym, ap, subst, ◌∙◌, arith, ⊎_elim, append_assoc, zero-add, take-append-drop, encode_utf8_all, IsUtf8}
 use Rattle.std.specs.Char.{len_utf8}
-use Rattle.std.specs.Str.{chars, all_scalars, IsCharBoundary}
+use Rattle.std.specs.Str.{chars, IsCharBoundary}
 use Rattle.std.specs.List.Sorted.{IsNonDecreasing, IsPartitionPoint}
-use Rattle.std.proofs.lemmas.Bool.{and_parts, cases_Bool, cases_lt, leb-false}
-use Rattle.std.proofs.lemmas.List.{get_or_default, length-take-le, take_at, drop_at}
-use Rattle.std.proofs.lemmas.Str.{chars-append, chars-encodes, encodes-append, encodes-chars, scalars-chars, length-le-encodes, IsUtf8-take, IsCharBoundary-at_seam}
-use Rattle.es_text.specs.LineStarts.{later_starts, line_starts, units_of, IsLineAt}
+use Rattle.std.proofs.lemmas.Bool.{cases_Bool, cases_lt, leb-false}
+use Rattle.std.proofs.lemmas.List.{get_or_default, length-take-le, take_at}
+use Rattle.std.proofs.lemmas.Str.{chars-append, encodes-append, encodes-chars, length-le-encodes, IsUtf8-take}
+use Rattle.es_text.specs.LineStarts.{later_starts, line_starts, IsLineAt}
 use Rattle.es_text.specs.Texts.{Text, ends_line, place_at, text_bytes}
-use Rattle.es_text.proofs.Places.{bytes_of, bytes_of-append, line_starts-rise, later_starts-ends, later_starts-runs, place-line}
+use Rattle.es_text.specs.UnitCounts.{units_begun_in}
+use Rattle.es_text.proofs.Places.{bytes_of, bytes_of-append, units_of, units_of-append, line_starts-rise, later_starts-ends, later_starts-runs, place-line}
+use Rattle.es_text.proofs.Units.{begun-encodes}
 
 -- what the search over the line starts has found
 pub IsLineAt-from_point : (starts : List ℕ) (at n : ℕ) → 0 < length starts → get_or starts 0 0 ≤ at
@@ -30,9 +32,9 @@ IsLineAt-from_point starts at n some first point bound =
 -- the line that starts at this byte of a text, and its place
 pub record FoundLine (text : List ℕ) (at start line : ℕ) : Type 0 where
   pub few : line ≤ length text
-  pub order : start ≤ at
-  pub boundary : IsCharBoundary text start
-  pub place_is : place_at (chars text) at ≡ record { line = line + 1; column = units_of (chars (take (at - start) (drop start text))) + 1 }
+  pub units : ℕ
+  pub counted : units_begun_in (take at text) ≡ units_begun_in (take start text) + units
+  pub place_is : place_at (chars text) at ≡ record { line = line + 1; column = units + 1 }
 
 later_starts-few : (cs : List ℕ) (at : ℕ) → length (later_starts at cs) ≤ length cs
 later_starts-few [] at = omega arith
@@ -42,52 +44,28 @@ later_starts-few (c ∷ cs) at =
     (λ runs. omega (arith, ap length (later_starts-runs at c cs runs), later_starts-few cs (at + len_utf8 c)))
     (cases_Bool (ends_line c cs))
 
-scalars-back : (xs ys : List ℕ) → all_scalars (xs ++ ys) ≡ true → all_scalars ys ≡ true
-scalars-back [] ys all = all
-scalars-back (x ∷ xs) ys all = scalars-back xs ys (and_parts _ _ all).1
-
-scalars-front : (xs ys : List ℕ) → all_scalars (xs ++ ys) ≡ true → all_scalars xs ≡ true
-scalars-front [] ys all = refl
-scalars-front (x ∷ xs) ys all =
-    let both = and_parts _ _ all in
-    ap (λ b. b && all_scalars xs) both.0 ∙ scalars-front xs ys both.1
-
--- the middle of a text that is written in three parts
-middle : (xs ys zs : List ℕ) → all_scalars ys ≡ true
-    → chars (take (length (encode_utf8_all ys)) (drop (length (encode_utf8_all xs)) (encode_utf8_all (xs ++ (ys ++ zs))))) ≡ ys
-middle xs ys zs scalar =
-    let front = encode_utf8_all xs in
-    let part = encode_utf8_all ys in
-    let back = encode_utf8_all zs in
-    let whole : encode_utf8_all (xs ++ (ys ++ zs)) ≡ front ++ (part ++ back) = encodes-append xs (ys ++ zs) ∙ ap (λ t. front ++ t) (encodes-append ys zs) in
-    ap (λ t. chars (take (length part) (drop (length front) t))) whole
-    ∙ ap (λ t. chars (take (length part) t)) (drop_at front (part ++ back) (length front) refl)
-    ∙ ap chars (take_at part back (length part) refl)
-    ∙ chars-encodes ys scalar
+-- the units that begin in the front of a text that is written in two parts
+begun-front : (text : List ℕ) (n : ℕ) (front back : List ℕ) → IsUtf8 text → chars text ≡ front ++ back → n ≡ bytes_of front
+    → units_begun_in (take n text) ≡ units_of front
+begun-front text n front back utf8 splits end =
+    let written : text ≡ encode_utf8_all front ++ encode_utf8_all back =
+    sym (encodes-chars text utf8) ∙ ap encode_utf8_all splits ∙ encodes-append front back in
+    ap (λ t. units_begun_in (take n t)) written
+    ∙ ap units_begun_in (take_at (encode_utf8_all front) (encode_utf8_all back) n (sym end))
+    ∙ begun-encodes front
 
 located : (text : List ℕ) (at start line : ℕ) (front part rest : List ℕ) → IsUtf8 text → line ≤ length text
     → chars text ≡ front ++ (part ++ rest) → start ≡ bytes_of front → at ≡ bytes_of front + bytes_of part
     → place_at (chars text) at ≡ record { line = 1 + line; column = 1 + units_of part } → FoundLine text at start line
 located text at start line front part rest utf8 few splits start_is end place =
-    let all = front ++ (part ++ rest) in
-    let written : text ≡ encode_utf8_all all = sym (encodes-chars text utf8) ∙ ap encode_utf8_all splits in
-    let scalar : all_scalars all ≡ true = ap all_scalars (sym splits) ∙ scalars-chars text utf8 in
-    let later = scalars-back front (part ++ rest) scalar in
-    let seam = IsCharBoundary-at_seam text (encode_utf8_all front) (encode_utf8_all (part ++ rest))
-    (written ∙ encodes-append front (part ++ rest)) (part ++ rest, (later, refl)) in
-    let width : at - start ≡ bytes_of part = omega (arith, start_is, end) in
-    let read : chars (take (at - start) (drop start text)) ≡ part =
-    ap (λ n. chars (take n (drop start text))) width
-    ∙ ap (λ n. chars (take (bytes_of part) (drop n text))) start_is
-    ∙ ap (λ t. chars (take (bytes_of part) (drop (bytes_of front) t))) written
-    ∙ middle front part rest (scalars-front part rest later) in
     let lines : 1 + line ≡ line + 1 = omega arith in
-    let columns : 1 + units_of part ≡ units_of (chars (take (at - start) (drop start text))) + 1 = omega (arith, ap units_of read) in
-    let P : ℕ → Type 0 = λ n. IsCharBoundary text n in
+    let columns : 1 + units_of part ≡ units_of part + 1 = omega arith in
+    let before = begun-front text start front (part ++ rest) utf8 splits start_is in
+    let upto = begun-front text at (front ++ part) rest utf8 (splits ∙ sym (append_assoc front part rest)) (end ∙ sym (bytes_of-append front part)) in
     record {
       few = few;
-      order = omega arith;
-      boundary = subst P (sym start_is) seam;
+      units = units_of part;
+      counted = omega (arith, before, upto, units_of-append front part);
       place_is = place ∙ ap (λ n. record { line = n; column = 1 + units_of part }) lines ∙ ap (λ n. record { line = line + 1; column = n }) columns;
     }
 
@@ -138,3 +116,8 @@ found-kept text slice items at k start utf8 boundary kept read is start_is =
 -- the starts that a source keeps rise
 pub rise-kept : (cs slice items : List ℕ) → items ≡ line_starts cs → slice ≡ items → IsNonDecreasing slice
 rise-kept cs slice items kept read = subst IsNonDecreasing (sym (read ∙ kept)) (line_starts-rise cs)
+
+-- the line that was found starts at the byte or before it
+pub start-reached : (slice items : List ℕ) (at k start : ℕ) → slice ≡ items → IsLineAt slice k at → start ≡ get_or items k start → start ≤ at
+start-reached slice items at k start read is start_is =
+    omega (arith, is.reached, get_or_default slice k 0 start is.within, ap (λ starts. get_or starts k start) read, start_is)

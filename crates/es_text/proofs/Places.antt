@@ -5,7 +5,7 @@ use Rattle.std.proofs.lemmas.Bool.{cases_Bool, cond-true, cond-false}
 use Rattle.std.proofs.lemmas.Bool.Decides.{nat_tests}
 use Rattle.std.proofs.lemmas.Str.{encodes-append, length-encode, len_utf8_bounds}
 use Rattle.es_text.specs.declared.span.Place.{Place}
-use Rattle.es_text.specs.LineStarts.{later_starts, line_starts, units_of, IsLineAt}
+use Rattle.es_text.specs.LineStarts.{later_starts, line_starts, IsLineAt}
 use Rattle.es_text.specs.Texts.{ends_line, len_utf16, place_behind, place_after}
 
 -- how many bytes of UTF-8 the characters take
@@ -18,17 +18,14 @@ bytes_of-cons c cs = length-append (encode_utf8 c) (encode_utf8_all cs) ∙ ap (
 pub bytes_of-append : (xs ys : List ℕ) → bytes_of (xs ++ ys) ≡ bytes_of xs + bytes_of ys
 bytes_of-append xs ys = ap length (encodes-append xs ys) ∙ length-append (encode_utf8_all xs) (encode_utf8_all ys)
 
+-- how many UTF-16 code units the characters take
+abbrev pub units_of : List ℕ → ℕ
+units_of [] = 0
+units_of (c ∷ cs) = len_utf16 c + units_of cs
+
 pub units_of-append : (xs ys : List ℕ) → units_of (xs ++ ys) ≡ units_of xs + units_of ys
 units_of-append [] ys = omega arith
 units_of-append (x ∷ xs) ys = omega (arith, units_of-append xs ys)
-
-len_utf16-le-len_utf8 : (c : ℕ) → len_utf16 c ≤ len_utf8 c
-len_utf16-le-len_utf8 c = grind (arith, nat_tests)
-
--- no character takes fewer bytes than units
-pub units_of-le-bytes_of : (cs : List ℕ) → units_of cs ≤ bytes_of cs
-units_of-le-bytes_of [] = omega arith
-units_of-le-bytes_of (c ∷ cs) = omega (arith, len_utf16-le-len_utf8 c, units_of-le-bytes_of cs, bytes_of-cons c cs)
 
 -- the line starts that a character adds
 pub later_starts-ends : (at c : ℕ) (cs : List ℕ) → ends_line c cs ≡ true

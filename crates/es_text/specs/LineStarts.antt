@@ -1,7 +1,7 @@
 -- What a source keeps so that it finds places fast: where its lines start, in bytes.
 use Rattle.std.specs.Prelude.{ℕ, ◌+◌, ◌<◌, ◌≤◌, slice_index, length, List, [], ◌∷◌, if◌then◌else◌}
 use Rattle.std.specs.Char.{len_utf8}
-use Rattle.es_text.specs.Texts.{ends_line, len_utf16}
+use Rattle.es_text.specs.Texts.{ends_line}
 
 -- the starts of the lines that start behind a character of these, the first of which stands at this byte
 abbrev pub later_starts : ℕ → List ℕ → List ℕ
@@ -11,11 +11,6 @@ later_starts at (c ∷ cs) =
 
 abbrev pub line_starts : List ℕ → List ℕ
 line_starts characters = 0 ∷ later_starts 0 characters
-
--- how many UTF-16 code units the characters take
-abbrev pub units_of : List ℕ → ℕ
-units_of [] = 0
-units_of (c ∷ cs) = len_utf16 c + units_of cs
 
 -- of the line starts, the one at k is the last that this byte reaches
 pub record IsLineAt (starts : List ℕ) (k at : ℕ) : Type 0 where

@@ -43,7 +43,7 @@ begins_with_line_feed (c ∷ cs) = c == 10
 abbrev pub ends_line : ℕ → List ℕ → Bool
 ends_line c following = is_line_terminator c && not (c == 13 && begins_with_line_feed following)
 
--- how many UTF-16 code units a character takes
+-- how many UTF-16 code units a character takes (ECMA-262, 11.1.1)
 abbrev pub len_utf16 : ℕ → ℕ
 len_utf16 c = if nat_lt 0xFFFF c then 2 else 1
 
@@ -61,3 +61,8 @@ place_after place (c ∷ cs) bytes = if bytes == 0 then place else place_after (
 -- the place of a byte of a text
 abbrev pub place_at : List ℕ → ℕ → Place
 place_at characters at = place_after (record { line = 1; column = 1 }) characters at
+
+-- how many UTF-16 code units stand before a byte of these characters
+abbrev pub units_at : List ℕ → ℕ → ℕ
+units_at [] at = 0
+units_at (c ∷ cs) at = if at == 0 then 0 else len_utf16 c + units_at cs (at - len_utf8 c)

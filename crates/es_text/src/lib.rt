@@ -6,13 +6,18 @@ mod items;
 mod memory;
 mod source;
 mod span;
+mod steps;
 #[cfg(test)]
 mod tests;
+mod token;
 mod txt;
+mod unit_counts;
 
 pub use finding::{Finding, Fix, Report, Severity};
 pub use items::{Items, push_at};
 pub use memory::NoMemory;
 pub use source::{MOST_BYTES, MOST_TEXT_BYTES, Source, SourceFault};
 pub use span::{Place, Span};
+pub use steps::Steps;
+pub use token::{Comment, LexMode, Token, TokenKind};
 pub use txt::Txt;

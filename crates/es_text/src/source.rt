@@ -2,12 +2,13 @@ ghost use Rattle.std.specs.Prelude.{◌≡◌, ◌≤◌, ◌<◌, false, length
 ghost use Rattle.std.specs.List.Sorted.{IsNonDecreasing};
 ghost use Rattle.std.specs.Str.{chars, encode_utf8_all, IsAscii, IsCharBoundary};
 ghost use Rattle.bstr.specs.Utf8.{lossy_chars};
-ghost use Rattle.es_text.specs.LineStarts.{line_starts, units_of, IsLineAt};
+ghost use Rattle.es_text.specs.LineStarts.{line_starts, IsLineAt};
 ghost use Rattle.es_text.specs.SourceFaults.{TellsLength};
-ghost use Rattle.es_text.specs.Texts.{ends_line, place_at, text_bytes, text_of};
+ghost use Rattle.es_text.specs.Texts.{ends_line, place_at, text_bytes, text_of, units_at};
 
 use crate::memory::NoMemory;
 use crate::span::{Place, Span};
+use crate::unit_counts::UnitCounts;
 use bstr::ByteSlice;
 use std::alloc::Global;
 use std::borrow::CowStr;
@@ -38,7 +39,7 @@ impl From<NoMemory> for SourceFault {
     }
 }
 
-/// The text of a file, which finds the place of a byte fast.
+/// The text of a file, which finds the place of a byte and the UTF-16 units before it fast.
 ///
 /// Contracts see its characters, and whether a byte order mark stood in front of them. An offset counts bytes of the text's UTF-8, without the mark.
 #[derive(Drop, Debug)]
@@ -46,6 +47,7 @@ pub struct Source {
     text: String,
     marked: bool,
     starts: Vec<u32>,
+    counts: UnitCounts,
 }
 
 impl Model for Source {
@@ -55,12 +57,13 @@ impl Model for Source {
     ghost use Rattle.es_text.specs.declared.source.TheConstants.{MOST_TEXT_BYTES};
     ghost use Rattle.es_text.specs.LineStarts.{line_starts};
     ghost use Rattle.es_text.specs.Texts.{Text};
+    ghost use Rattle.es_text.specs.UnitCounts.{CountsUnits};
 
     ghost Value = { Text };
 
     ghost view = { λ source. record { characters = chars (string_bytes source.text); marked = source.marked } };
 
-    ghost invariant = { λ source. (source.starts.items ≡ line_starts (chars (string_bytes source.text))) × (length (string_bytes source.text) ≤ MOST_TEXT_BYTES) };
+    ghost invariant = { λ source. (source.starts.items ≡ line_starts (chars (string_bytes source.text))) × (length (string_bytes source.text) ≤ MOST_TEXT_BYTES) × CountsUnits (string_bytes source.text) source.counts };
 }
 
 impl Source {
@@ -98,10 +101,12 @@ impl Source {
         ensures { IfOk result (λ source. source ≡ record { characters = chars (string_bytes text); marked = marked }) }
     {
         let starts = line_starts(alloc, text.as_str())?;
+        let counts = UnitCounts::of(alloc, text.as_str())?;
         Ok(Source {
             text,
             marked,
             starts,
+            counts,
         })
     }
 
@@ -110,6 +115,7 @@ impl Source {
         ensures bytes { result.now ≡ text_bytes self.now }
         ensures characters { chars result.now ≡ self.now.characters }
         ensures bound { length result.now ≤ MOST_TEXT_BYTES }
+        ensures start { IsCharBoundary (text_bytes self.now) 0 }
     {
         self.text.as_str()
     }
@@ -133,18 +139,31 @@ impl Source {
 
     /// The place of the character that begins at this byte, or of the text's end.
     ///
-    /// Lines end at LF, CR, U+2028 and U+2029, and CR LF is one end. Finding the line takes a binary search, and the column a pass over the line.
+    /// Lines end at LF, CR, U+2028 and U+2029, and CR LF is one end. It costs a binary search over the lines, and no pass over the line.
     pub fn place(&self, at: u32) -> Place
         requires { IsCharBoundary (text_bytes self.now) at }
         ensures { result ≡ place_at self.now.characters at }
     {
         let line = line_at(self.starts.as_slice(), at);
         let start = self.starts[line] as usize;
-        let units = count_units(&self.text.as_str()[start..at as usize]);
+        let text = self.text.as_str();
+        let units = self.counts.count_before(text, at as usize);
+        let units_before_line = self.counts.count_before(text, start);
         Place {
             line: line as u32 + 1,
-            column: units as u32 + 1,
+            column: (units - units_before_line) as u32 + 1,
         }
+    }
+
+    /// How many UTF-16 code units stand before the character that begins at this byte, or before the text's end.
+    ///
+    /// In ASCII it's the byte itself, and in other texts costs a count over 255 bytes at most.
+    pub fn units(&self, at: u32) -> u32
+        requires { IsCharBoundary (text_bytes self.now) at }
+        ensures units { result ≡ units_at self.now.characters at }
+        ensures bound { result ≤ at }
+    {
+        self.counts.count_before(self.text.as_str(), at as usize) as u32
     }
 }
 
@@ -196,17 +215,4 @@ fn line_at(starts: &[u32], at: u32) -> usize
     ensures { IsLineAt starts.now result at }
 {
     starts.partition_point(|start| *start <= at) - 1
-}
-
-/// How many UTF-16 code units the text takes.
-fn count_units(text: &str) -> usize
-    requires { length text.now ≤ MOST_TEXT_BYTES }
-    ensures units { result ≡ units_of (chars text.now) }
-    ensures bound { result ≤ length text.now }
-{
-    let mut units = 0;
-    for c in text.chars() {
-        units += c.len_utf16();
-    }
-    units
 }

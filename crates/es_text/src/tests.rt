@@ -11,6 +11,15 @@ fn place_at(alloc: Global, source: &Source, at: u32) -> Result<String, AllocErro
     format!(in alloc; "{line}:{column}")
 }
 
+/// The UTF-16 units before the offset, or `None` inside a character.
+fn units_at(source: &Source, at: u32) -> Option<u32> {
+    if source.text().is_char_boundary(at as usize) {
+        Some(source.units(at))
+    } else {
+        None
+    }
+}
+
 fn part(source: &Source, start: u32, end: u32) -> Option<&str> {
     let text = source.text();
     let on_boundaries = text.is_char_boundary(start as usize)
@@ -72,6 +81,54 @@ fn places(rt: HostRuntime) -> Result<(), Fail> {
 }
 
 #[test]
+fn units(rt: HostRuntime) -> Result<(), Fail> {
+    let wide: &[u8] = b"\x22\xff\xf0\x9f\x98\x80\x22; debugger\n";
+    let cases: [(&[u8], u32, Option<u32>); 13] = [
+        (b"", 0, Some(0)),
+        (b"ab\r\ncd", 0, Some(0)),
+        (b"ab\r\ncd", 4, Some(4)),
+        (b"ab\r\ncd", 6, Some(6)),
+        (b"\xef\xbb\xbfa\xf0\x9f\x98\x80", 0, Some(0)),
+        (b"\xef\xbb\xbfa\xf0\x9f\x98\x80", 1, Some(1)),
+        (b"\xef\xbb\xbfa\xf0\x9f\x98\x80", 5, Some(3)),
+        (b"\xc3\xa9\xe2\x80\xa8\xe2\x82\xac", 2, Some(1)),
+        (b"\xc3\xa9\xe2\x80\xa8\xe2\x82\xac", 8, Some(3)),
+        (wide, 4, Some(2)),
+        (wide, 5, None),
+        (wide, 8, Some(4)),
+        (wide, 20, Some(16)),
+    ];
+    for (bytes, at, want) in cases {
+        let source = Source::new(rt.alloc(), bytes)?;
+        assert_eq!(rt; units_at(&source, at), want, "at {at}");
+    }
+    Ok(())
+}
+
+#[test]
+fn long_lines(rt: HostRuntime) -> Result<(), Fail> {
+    let mut bytes = vec![in rt.alloc(); b'a'; 1_000]?;
+    let plain = Source::new(rt.alloc(), bytes.as_slice())?;
+    let place = place_at(rt.alloc(), &plain, 900)?;
+    assert_eq!(rt; place.as_str(), "1:901");
+    bytes.extend_from_slice(b"\xf0\x9f\x98\x80;\xe2\x80\xa8;")?;
+    let mixed = Source::new(rt.alloc(), bytes.as_slice())?;
+    let places = [
+        (767, "1:768"),
+        (768, "1:769"),
+        (1_004, "1:1003"),
+        (1_009, "2:2"),
+    ];
+    for (at, want) in places {
+        let place = place_at(rt.alloc(), &mixed, at)?;
+        assert_eq!(rt; place.as_str(), want, "at {at}");
+    }
+    assert_eq!(rt; units_at(&mixed, 1_024), None);
+    assert_eq!(rt; units_at(&mixed, 1_009), Some(1_005));
+    Ok(())
+}
+
+#[test]
 fn texts(rt: HostRuntime) -> Result<(), Fail> {
     let cases: [(&[u8], &str, bool); 4] = [
         (b"\xef\xbb\xbfvar a;", "var a;", true),
@@ -98,5 +155,45 @@ fn lengths(rt: HostRuntime) -> Result<(), Fail> {
     bytes.push(b'a')?;
     let fault = Source::new(rt.alloc(), bytes.as_slice()).err();
     assert_eq!(rt; fault, Some(SourceFault::TooLong { bytes: 2_097_153 }));
+    Ok(())
+}
+
+/// The values are those of Python's `bytes.decode('utf-8', 'replace')`, without a leading mark.
+#[test]
+fn bytes_that_are_no_utf8(rt: HostRuntime) -> Result<(), Fail> {
+    for byte in 0..=255u8 {
+        let source = Source::new(rt.alloc(), &[byte])?;
+        let want = if byte < 128 { byte as char } else { '\u{fffd}' };
+        assert_eq!(rt; source.text().chars().next(), Some(want));
+        assert_eq!(rt; source.text().len(), want.len_utf8());
+    }
+    let cases: [(&[u8], &str); 22] = [
+        (b"\xc3\xa9", "\u{e9}"),
+        (b"\xc0\x80", "\u{fffd}\u{fffd}"),
+        (b"\xc1\xbf", "\u{fffd}\u{fffd}"),
+        (b"\xc3A", "\u{fffd}A"),
+        (b"\x80\xbf", "\u{fffd}\u{fffd}"),
+        (b"\xff\xfe", "\u{fffd}\u{fffd}"),
+        (b"\xe2\x82", "\u{fffd}"),
+        (b"\xe2\x82\xac", "\u{20ac}"),
+        (b"\xe2(\xa1", "\u{fffd}(\u{fffd}"),
+        (b"\xe0\x80\x80", "\u{fffd}\u{fffd}\u{fffd}"),
+        (b"\xed\xa0\x80", "\u{fffd}\u{fffd}\u{fffd}"),
+        (b"\xed\x9f\xbf", "\u{d7ff}"),
+        (b"\xf0\x9f\x98", "\u{fffd}"),
+        (b"\xf0\x9f\x98\x80", "\u{1f600}"),
+        (b"\xf0\x9fA", "\u{fffd}A"),
+        (b"\xf0\x80\x80\x80", "\u{fffd}\u{fffd}\u{fffd}\u{fffd}"),
+        (b"\xf4\x8f\xbf\xbf", "\u{10ffff}"),
+        (b"\xf4\x90\x80\x80", "\u{fffd}\u{fffd}\u{fffd}\u{fffd}"),
+        (b"\xf5\x80", "\u{fffd}\u{fffd}"),
+        (b"\xe2\x82\xe2\x82\xac", "\u{fffd}\u{20ac}"),
+        (b"\xef\xbb", "\u{fffd}"),
+        (b"\xef\xbb\xbf\xef\xbb", "\u{fffd}"),
+    ];
+    for (bytes, text) in cases {
+        let source = Source::new(rt.alloc(), bytes)?;
+        assert_eq!(rt; source.text(), text);
+    }
     Ok(())
 }

@@ -1,0 +1,9 @@
+pub mod Forms
+pub mod Gathers
+pub mod Longest
+pub mod Many
+pub mod Places
+pub mod Prefixes
+pub mod Punctuators
+pub mod Skips
+pub mod Spans

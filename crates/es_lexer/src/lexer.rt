@@ -1,0 +1,51 @@
+ghost use Rattle.std.specs.Prelude.{◌≡◌, ◌≤◌, ◌+◌, Some, None, IfOk, IfErr, OnErr};
+ghost use Rattle.std.specs.Str.{IsCharBoundary};
+ghost use Rattle.es_text.specs.Texts.{text_bytes};
+ghost use Rattle.es_text.specs.Tokens.{first_place, token};
+
+use crate::form::form_at;
+use crate::skip::skip;
+use es_text::{LexMode, Source, Span, Steps, Token};
+use std::sync::ledger::Ledger;
+
+/// Why no token is read.
+#[derive(Clone, Copy, Debug, PartialEq, Eq)]
+pub enum LexFault {
+    /// No form of a token fits at this byte, the first one behind what is skipped.
+    NoToken { at: u32 },
+}
+
+/// Skips white space, line ends and comments from the byte `at` on, and reads one token in this mode.
+///
+/// Takes no memory, and time in the length of what it goes over.
+pub fn next<L: Ledger>(
+    source: &Source,
+    at: u32,
+    mode: LexMode,
+    steps: &mut Steps<L>,
+) -> Result<Token, LexFault>
+    requires { IsCharBoundary (text_bytes source.now) at }
+    ensures token { IfOk result (λ read. token (text_bytes source.now) at mode ≡ Some read) }
+    ensures order { IfOk result (λ read. (at ≤ read.span.start) × (read.span.start ≤ read.span.end)) }
+    ensures start { IfOk result (λ read. IsCharBoundary (text_bytes source.now) read.span.start) }
+    ensures end { IfOk result (λ read. IsCharBoundary (text_bytes source.now) read.span.end) }
+    ensures no_token { OnErr result (token (text_bytes source.now) at mode ≡ None) }
+    ensures place { IfErr result (λ fault. fault ≡ LexFault.NoToken (first_place (text_bytes source.now) at)) }
+    ensures ticks { steps.new ≡ steps.old + 1 }
+{
+    steps.tick();
+    let text = source.text();
+    let gap = skip(text, at as usize);
+    let start = gap.end as u32;
+    match form_at(text, gap.end, mode) {
+        Some(form) => Ok(Token {
+            kind: form.kind,
+            span: Span {
+                start,
+                end: form.end as u32,
+            },
+            line_before: gap.line,
+        }),
+        None => Err(LexFault::NoToken { at: start }),
+    }
+}

@@ -1,0 +1,18 @@
+//! Reads the tokens and the comments of a text.
+#![tactic(auto)]
+
+mod class;
+mod comment;
+mod cursor;
+mod form;
+mod lexer;
+mod literal;
+mod number;
+mod punctuator;
+mod skip;
+#[cfg(test)]
+mod tests;
+
+pub use comment::comments;
+pub use es_text::LexMode;
+pub use lexer::{LexFault, next};
