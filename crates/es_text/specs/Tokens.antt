@@ -1,6 +1,6 @@
 -- The tokens of a text. ECMA-262, 12.5 to 12.8: a token is read in a mode, which the grammar fixes, as it
 -- does the standard's goal symbols.
-use Rattle.std.specs.Prelude.{ℕ, List, [], ◌∷◌, ◌++◌, drop, Bool, true, false, ◌||◌, ◌&&◌, ◌==◌, not, Option, Some, None, if◌then◌else◌}
+use Rattle.std.specs.Prelude.{ℕ, List, [], ◌∷◌, ◌++◌, drop, ◌||◌, ◌&&◌, ◌==◌, Option, Some, None, if◌then◌else◌}
 use Rattle.std.specs.Option.{option_map, option_or}
 use Rattle.es_text.specs.declared.token.LexMode.{LexMode}
 use Rattle.es_text.specs.declared.token.LexMode.TheVariants as mode

@@ -197,3 +197,28 @@ fn bytes_that_are_no_utf8(rt: HostRuntime) -> Result<(), Fail> {
     }
     Ok(())
 }
+
+/// A number that tells texts apart.
+fn sum_of(text: &str) -> u64 {
+    let mut sum: u64 = 0;
+    for byte in text.bytes() {
+        sum = sum.wrapping_mul(31).wrapping_add(byte as u64);
+    }
+    sum
+}
+
+/// All pairs of bytes, an `a` behind each. The length and the sum are those of Python's
+/// `bytes.decode('utf-8', 'replace')`.
+#[test]
+fn pairs_of_bytes(rt: HostRuntime) -> Result<(), Fail> {
+    let mut bytes = Vec::new(rt.alloc());
+    for first in 0..=255u8 {
+        for second in 0..=255u8 {
+            bytes.extend_from_slice(&[first, second, b'a'])?;
+        }
+    }
+    let source = Source::new(rt.alloc(), bytes.as_slice())?;
+    assert_eq!(rt; source.text().len(), 316_352);
+    assert_eq!(rt; sum_of(source.text()), 4_003_403_394_162_441_024);
+    Ok(())
+}
