@@ -1,6 +1,8 @@
 -- The height of a tree to which a child is added.
-use Rattle.std.proofs.Common.{◌≡◌, ℕ, zero, suc, ◌+◌, ◌<◌, max, List, [], ◌∷◌, ◌++◌, length, arith, refl}
-use Rattle.std.specs.Prelude.{Option, Some, None}
+use Rattle.std.proofs.Common.{◌≡◌, ℕ, zero, suc, ◌+◌, ◌<◌, max, List, [], ◌∷◌, ◌++◌, length, replicate, arith, refl}
+use Rattle.std.specs.Prelude.{Option, Some, None, slice_get}
+use Rattle.std.proofs.lemmas.List.{length-replicate}
+use Rattle.es_text.specs.declared.span.Span.{Span}
 use Rattle.es_text.specs.Lists.{pushed_at}
 use Rattle.es_tree.specs.declared.shape.Shape.{Shape, out-Shape, roll-Shape}
 use Rattle.es_tree.specs.declared.shape.Shape.TheOpen.{Shape-F}
@@ -8,7 +10,7 @@ use Rattle.es_tree.specs.declared.shape.Shape.TheShapes.{former-Shape-fields, fo
 use Rattle.es_tree.specs.declared.shape.Shape.TheFolds.{fold-roll-Shape, fold_out-Shape}
 use Rattle.es_tree.specs.declared.shape.Shape.TheViews.{out-roll-Shape}
 use Rattle.es_tree.specs.Kinds.{child_fields}
-use Rattle.es_tree.specs.Shapes.{tallest, tallest_of_all, height_step, height, height_of, with_child}
+use Rattle.es_tree.specs.Shapes.{bare, HasNone, tallest, tallest_of_all, height_step, height, height_of, with_child}
 
 -- the heights in place of the children, of one field and of all
 abbrev heights_in : List (Option Shape) → List (Option ℕ)
@@ -41,6 +43,31 @@ pub height-with_child : (shape : Shape) (at : ℕ) (child : Option Shape) → at
     → height (with_child shape at child) ≡ max (height shape) (height_of child + 1)
 height-with_child shape at child within =
     omega (arith, height_roll (record (out-Shape shape) { fields = pushed_at (out-Shape shape).fields at child }), height_out shape, tallest_of_all-push (out-Shape shape).fields at child within)
+
+no_heights : (count : ℕ) → tallest_of_all (heights (replicate count [])) ≡ 0
+no_heights zero = refl
+no_heights (suc count) = omega (arith, no_heights count)
+
+-- a node without children has the height 1
+pub height-bare : (kind : ℕ) (span : Span) → height (bare kind span) ≡ 1
+height-bare kind span =
+    omega (arith, height_roll (record { kind = kind; span = span; fields = replicate (length (child_fields kind)) []; attributes = [] }), no_heights (length (child_fields kind)))
+
+none_at : {A : Type 0} (count at : ℕ) (x : A) → at < count → slice_get (replicate count x) at ≡ Some x
+none_at zero at x within = absurd (omega (arith, within))
+none_at (suc count) zero x within = refl
+none_at (suc count) (suc at) x within = none_at count at x (omega (arith, within))
+
+-- and each of its fields has a list, which is empty
+pub none-bare : (kind : ℕ) (span : Span) (field : ℕ) → field < length (child_fields kind) → HasNone (bare kind span) field
+none-bare kind span field within =
+    rw (out-roll-Shape (record { kind = kind; span = span; fields = replicate (length (child_fields kind)) []; attributes = [] }))
+    (none_at (length (child_fields kind)) field [] within)
+
+pub fields-bare : (kind : ℕ) (span : Span) → length (out-Shape (bare kind span)).fields ≡ length (child_fields (out-Shape (bare kind span)).kind)
+fields-bare kind span =
+    rw (out-roll-Shape (record { kind = kind; span = span; fields = replicate (length (child_fields kind)) []; attributes = [] }))
+    (length-replicate (length (child_fields kind)) [])
 
 -- adding to a field leaves the number of the fields
 pub length-pushed_at : {A : Type 0} (fields : List (List A)) (at : ℕ) (child : A) → length (pushed_at fields at child) ≡ length fields

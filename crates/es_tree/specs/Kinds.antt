@@ -1,23 +1,10 @@
--- The kinds of nodes, and what child fields each has, in the order of the walk.
-use Rattle.std.specs.Prelude.{ℕ, ◌==◌, if◌then◌else◌, List, [], ◌∷◌, Option, None, Some, IsSome, unwrap_or, slice_get}
-use Rattle.es_tree.specs.declared.kind.TheConstants.{PROGRAM, EXPRESSION_STATEMENT, BLOCK_STATEMENT, EMPTY_STATEMENT, DEBUGGER_STATEMENT, IDENTIFIER}
-
--- what a child field holds: exactly one child, a child that may be missing, or a list of children and holes
-pub data Holds : Type 0 where
-  One : Holds
-  Optional : Holds
-  Many : Holds
+-- What child fields each kind of nodes has, in the order of the walk.
+use Rattle.std.specs.Prelude.{ℕ, List, [], map, Option, IsSome, option_map, unwrap_or, slice_get}
+use Rattle.es_tables.specs.Nodes.{Holds, node_rows}
 
 -- the child fields of the kind with this code, or None where no kind has it
-abbrev pub fields_of : ℕ → Option (List Holds)
-fields_of kind =
-    if kind == PROGRAM then Some (Many ∷ [])
-    else if kind == EXPRESSION_STATEMENT then Some (One ∷ [])
-    else if kind == BLOCK_STATEMENT then Some (Many ∷ [])
-    else if kind == EMPTY_STATEMENT then Some []
-    else if kind == DEBUGGER_STATEMENT then Some []
-    else if kind == IDENTIFIER then Some []
-    else None
+unfoldable pub fields_of : ℕ → Option (List Holds)
+fields_of kind = option_map (λ row. map (λ child. child.holds) row.children) (slice_get node_rows kind)
 
 abbrev pub IsKind : ℕ → Type 0
 IsKind kind = IsSome (fields_of kind)

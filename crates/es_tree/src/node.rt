@@ -5,22 +5,11 @@ ghost use Rattle.es_tree.specs.Spans.{child_passes, spans_pass};
 ghost use Rattle.es_text.specs.declared.span.Span.{Span};
 ghost use Rattle.es_tree.specs.Shapes.{bare, height, height_of, with_child, HasNone, HasPlace};
 
-use crate::kind;
+use crate::kind::count_fields;
 use crate::shape::Shape;
 use es_text::{Items, NoMemory, Span, push_at};
 use std::alloc::Global;
 use std::marker::Model;
-
-/// How many child fields a node of this kind has.
-fn count_fields(kind: u16) -> usize
-    requires { IsKind kind }
-    ensures { result ≡ length (child_fields kind) }
-{
-    match kind {
-        kind::PROGRAM | kind::EXPRESSION_STATEMENT | kind::BLOCK_STATEMENT => 1,
-        _ => 0,
-    }
-}
 
 /// This many lists of no children.
 fn no_children(alloc: Global, count: usize) -> Result<Items<Items<Option<Shape>>>, NoMemory>

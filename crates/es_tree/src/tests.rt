@@ -9,6 +9,7 @@ use std::alloc::Global;
 use std::test::Fail;
 
 /// `{ debugger; } foo;`
+#[tactic(auto, unfolding(crate::specs::Kinds::fields_of))]
 fn program(alloc: Global) -> Result<Node, NoMemory>
     ensures kind { IfOk result (λ root. (out-Shape root).kind ≡ PROGRAM) }
     ensures height { IfOk result (λ root. height root ≡ 3) }
@@ -30,6 +31,7 @@ fn program(alloc: Global) -> Result<Node, NoMemory>
 }
 
 /// This many blocks and then an empty statement, each the only child of the one before.
+#[tactic(auto, unfolding(crate::specs::Kinds::fields_of))]
 fn chain(alloc: Global, blocks: u32) -> Result<Node, NoMemory>
     requires { blocks < 1000 }
     ensures { IfOk result (λ node. height node ≡ blocks + 1) }
@@ -103,6 +105,7 @@ fn a_small_tree(rt: HostRuntime) -> Result<(), Fail> {
 }
 
 #[test]
+#[tactic(auto, unfolding(crate::specs::Kinds::fields_of))]
 fn holes_have_no_number(rt: HostRuntime) -> Result<(), Fail> {
     let mut root = Node::new(rt.alloc(), kind::PROGRAM, Span { start: 0, end: 3 })?;
     root.add(0, None)?;
@@ -127,6 +130,7 @@ fn holes_have_no_number(rt: HostRuntime) -> Result<(), Fail> {
 }
 
 #[test]
+#[tactic(auto, unfolding(crate::specs::Kinds::fields_of))]
 fn a_thousand_levels(rt: HostRuntime) -> Result<(), Fail> {
     let mut root = Node::new(rt.alloc(), kind::PROGRAM, Span { start: 0, end: 1 })?;
     root.add(0, Some(chain(rt.alloc(), 998)?))?;
@@ -139,6 +143,7 @@ fn a_thousand_levels(rt: HostRuntime) -> Result<(), Fail> {
 }
 
 #[test]
+#[tactic(auto, unfolding(crate::specs::Kinds::fields_of))]
 fn the_highest_node(rt: HostRuntime) -> Result<(), Fail> {
     let mut block = Node::new(rt.alloc(), kind::BLOCK_STATEMENT, Span { start: 0, end: 1 })?;
     block.add(0, Some(chain(rt.alloc(), 999)?))?;
