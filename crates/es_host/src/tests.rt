@@ -114,7 +114,7 @@ fn heard<R: Rule>(
 }
 
 /// `a;;` and a line feed.
-#[tactic(auto, unfolding(es_tree::specs::Kinds::fields_of))]
+#[tactic(auto, unfolding(es_tables::specs::Nodes::holds_of))]
 fn first_program(alloc: Global) -> Result<Node, NoMemory>
     ensures kind { IfOk result (λ root. (out-Shape root).kind ≡ PROGRAM) }
     ensures height { IfOk result (λ root. height root ≡ 3) }
@@ -130,7 +130,7 @@ fn first_program(alloc: Global) -> Result<Node, NoMemory>
 }
 
 /// `;` in a block.
-#[tactic(auto, unfolding(es_tree::specs::Kinds::fields_of))]
+#[tactic(auto, unfolding(es_tables::specs::Nodes::holds_of))]
 fn second_program(alloc: Global) -> Result<Node, NoMemory>
     ensures kind { IfOk result (λ root. (out-Shape root).kind ≡ PROGRAM) }
     ensures height { IfOk result (λ root. height root ≡ 3) }

@@ -11,7 +11,7 @@ use std::alloc::Global;
 use std::test::Fail;
 
 /// `{ debugger; ; } debugger;`
-#[tactic(auto, unfolding(es_tree::specs::Kinds::fields_of))]
+#[tactic(auto, unfolding(es_tables::specs::Nodes::holds_of))]
 fn program(alloc: Global) -> Result<Node, NoMemory>
     ensures kind { IfOk result (λ root. (out-Shape root).kind ≡ PROGRAM) }
     ensures height { IfOk result (λ root. height root ≡ 3) }

@@ -6,7 +6,7 @@ use Rattle.std.specs.FinMap as finite
 use Rattle.es_text.specs.declared.finding.Report.{Report}
 use Rattle.es_text.specs.Texts.{place_at, text_of}
 use Rattle.es_tree.specs.declared.shape.Shape.{Shape}
-use Rattle.es_tree.specs.Numbers.{rows_of}
+use Rattle.es_tree.specs.Numbering.{rows_of}
 use Rattle.es_host.specs.Events.{File, pair}
 use Rattle.es_files.specs.Outside.{Held}
 use Rattle.es_run.specs.declared.status.Status.{Status}

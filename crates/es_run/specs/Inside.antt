@@ -4,7 +4,7 @@ use Rattle.std.specs.List.{list_all}
 use Rattle.es_text.specs.declared.span.Span.{Span}
 use Rattle.es_tree.specs.declared.row.Row.{Row}
 use Rattle.es_tree.specs.declared.shape.Shape.{Shape}
-use Rattle.es_tree.specs.Numbers.{rows_of}
+use Rattle.es_tree.specs.Numbering.{rows_of}
 use Rattle.es_tree.specs.Spans.{spans_pass}
 use Rattle.es_run.specs.SmallText.{IsSmallText, program}
 

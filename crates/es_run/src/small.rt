@@ -2,8 +2,8 @@
 ghost use Rattle.std.specs.Prelude.{◌≡◌, ℕ, max, ◌&&◌, not, codes, ◌+◌, ◌≤◌, ◌<◌, ◌^◌, Some, None, IfOk, OnOk, MatchOption, IfSome, length, slice_get};
 ghost use Rattle.std.specs.Str.{bytes_eq};
 ghost use Rattle.es_tree.specs.Shapes.{height};
-ghost use Rattle.es_tables.specs.Nodes.{Many};
-ghost use Rattle.es_tree.specs.Kinds.{IsKind, held_by};
+ghost use Rattle.es_tables.specs.declared.fields.Holds.TheVariants.{Many};
+ghost use Rattle.es_tables.specs.Nodes.{IsKind, held_by};
 ghost use Rattle.es_tree.specs.declared.shape.Shape.{out-Shape};
 ghost use Rattle.es_run.specs.Characters.{is_reserved};
 ghost use Rattle.es_run.specs.SmallText.{begins_name, leaf, word_statement, with_children, IsSmallText, program};
@@ -77,7 +77,7 @@ fn is_name(word: &[u8]) -> bool
 }
 
 /// The statement that a word and the `;` behind it are.
-#[tactic(auto, unfolding(crate::specs::SmallText::word_statement, es_tree::specs::Kinds::fields_of))]
+#[tactic(auto, unfolding(crate::specs::SmallText::word_statement, es_tables::specs::Nodes::holds_of))]
 fn statement_of(
     alloc: Global,
     word: &[u8],
@@ -139,7 +139,7 @@ fn add_all(node: &mut Node, children: Vec<Node>) -> Result<(), NoMemory>
 }
 
 /// The block that a text begins with, which begins with `{`.
-#[tactic(auto, unfolding(es_tree::specs::Kinds::fields_of))]
+#[tactic(auto, unfolding(es_tables::specs::Nodes::holds_of))]
 #[cycle(small)]
 fn block(alloc: Global, text: &[u8], start: usize, blocks: u32) -> Result<Option<One>, NoMemory>
     requires deep { blocks ≤ 400 }
@@ -166,7 +166,7 @@ fn block(alloc: Global, text: &[u8], start: usize, blocks: u32) -> Result<Option
 }
 
 /// The statement that a text begins with.
-#[tactic(auto, unfolding(es_tree::specs::Kinds::fields_of))]
+#[tactic(auto, unfolding(es_tables::specs::Nodes::holds_of))]
 #[cycle(small)]
 fn statement(alloc: Global, text: &[u8], start: usize, blocks: u32) -> Result<Option<One>, NoMemory>
     requires deep { blocks ≤ 400 }
@@ -217,7 +217,7 @@ fn statements(
 }
 
 /// The tree of a small text, or `None` where the text is none.
-#[tactic(auto, unfolding(es_tree::specs::Kinds::fields_of))]
+#[tactic(auto, unfolding(es_tables::specs::Nodes::holds_of))]
 pub fn parse(alloc: Global, text: &[u8]) -> Result<Option<Tree>, NoMemory>
     requires { length text.now ≤ 65536 }
     ensures { IfOk result (Parses text.now) }

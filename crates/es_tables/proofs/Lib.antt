@@ -1,4 +1,4 @@
-mod Names
-mod Numbers
-mod Prefixes
-mod Searches
+mod NodesLemmas
+mod PrefixLemmas
+mod RowsLemmas
+mod SearchesLemmas

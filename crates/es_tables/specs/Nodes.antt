@@ -1,13 +1,9 @@
 -- The kinds of nodes of ESTree, with their child fields in the order of the walk and their attributes.
 use Prim.Native.String.{String}
-use Rattle.std.specs.Prelude.{ℕ, List, [], ◌∷◌, ◌++◌, map, Option, option_and_then, position, slice_get, codes}
+use Rattle.std.specs.Prelude.{ℕ, List, [], ◌∷◌, ◌++◌, map, Option, Some, None, IsSome, IsNone, option_and_then, option_map, unwrap_or, position, slice_get, codes}
 use Rattle.std.specs.Str.{bytes_eq}
-
--- what a child field holds: exactly one child, a child that may be missing, or a list of children and holes
-pub data Holds : Type 0 where
-  One : Holds
-  Optional : Holds
-  Many : Holds
+use Rattle.es_tables.specs.declared.fields.Holds.{Holds}
+use Rattle.es_tables.specs.declared.fields.Holds.TheVariants.{One, Optional, Many}
 
 pub record Child : Type 0 where
   pub name : List ℕ
@@ -30,7 +26,7 @@ many name = record { name = codes name; holds = Many }
 abbrev pub node : String → List Child → List String → NodeRow
 node kind children attributes = record { kind = codes kind; children = children; attributes = map codes attributes }
 
--- the table of nodes; a kind's code is its row's position, from 0
+-- the table of nodes; a kind's code is its row's index, from 0
 abbrev pub node_rows : List NodeRow
 node_rows =
     node "Program" (many "body" ∷ []) ("sourceType" ∷ [])
@@ -109,10 +105,45 @@ node_rows =
 abbrev pub kind_words : List (List ℕ)
 kind_words = map (λ row. row.kind) node_rows
 
--- the names of a row, children first, then attributes
+-- the names of a row, child fields first, then attributes
 abbrev pub names_of : NodeRow → List (List ℕ)
 names_of row = map (λ child. child.name) row.children ++ row.attributes
 
--- the position of the name, from 0, among those of the kind with this code
-abbrev pub field_position : ℕ → List ℕ → Option ℕ
-field_position kind name = option_and_then (λ row. position (bytes_eq name) (names_of row)) (slice_get node_rows kind)
+-- the index of the name, from 0, among those of the kind with this code: the field's code
+abbrev pub field_index : ℕ → List ℕ → Option ℕ
+field_index kind name = option_and_then (λ row. position (bytes_eq name) (names_of row)) (slice_get node_rows kind)
+
+-- the name of the kind's field with this code
+unfoldable pub field_name : ℕ → ℕ → Option (List ℕ)
+field_name kind field = option_and_then (λ row. slice_get (names_of row) field) (slice_get node_rows kind)
+
+-- what the child fields of the kind with this code hold, or None where no kind has it
+unfoldable pub holds_of : ℕ → Option (List Holds)
+holds_of kind = option_map (λ row. map (λ child. child.holds) row.children) (slice_get node_rows kind)
+
+abbrev pub IsKind : ℕ → Type 0
+IsKind kind = IsSome (holds_of kind)
+
+-- the child fields of the kind, of which a code that is no kind's has none
+abbrev pub child_fields : ℕ → List Holds
+child_fields kind = unwrap_or (holds_of kind) []
+
+-- what the child field of this code holds
+abbrev pub held_by : ℕ → ℕ → Option Holds
+held_by kind field = slice_get (child_fields kind) field
+
+-- the kind has this child field
+abbrev pub HasField : ℕ → ℕ → Type 0
+HasField kind field = IsSome (held_by kind field)
+
+-- the kind has this attribute: a field that is no child field
+abbrev pub HasAttribute : ℕ → ℕ → Type 0
+HasAttribute kind field = IsSome (field_name kind field) × IsNone (held_by kind field)
+
+-- the fields of a row, with what they hold: an attribute holds no child
+abbrev pub fields_of : NodeRow → List (List ℕ × Option Holds)
+fields_of row = map (λ child. (child.name, Some child.holds)) row.children ++ map (λ name. (name, None)) row.attributes
+
+-- the fields of the kind, of which a code that is no kind's has none
+unfoldable pub kind_fields : ℕ → List (List ℕ × Option Holds)
+kind_fields kind = unwrap_or (option_map fields_of (slice_get node_rows kind)) []

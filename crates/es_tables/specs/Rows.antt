@@ -27,6 +27,6 @@ pub record IsLongestPrefix (rows : List Row) (bytes text : List ℕ) : Type 0 wh
   pub prefix : IsPrefix text bytes
   pub longest : (other : List ℕ) (code : ℕ) → HasRow rows other code → IsPrefix other bytes → length other ≤ length text
 
--- the rows are the words, each with its position in their list as its code
+-- the rows are the words, each with its index in their list as its code
 abbrev pub IsNumbered : List (List ℕ) → List Row → Type 0
 IsNumbered words rows = (text : List ℕ) (code : ℕ) → (slice_get words code ≡ Some text) ↔ HasRow rows text code

@@ -1,7 +1,8 @@
-//! Constant tables of words: the reserved words, the punctuators and the kinds of nodes, and the look-ups
-//! in them.
+//! Constant tables: the reserved words, the punctuators, the kinds of nodes with their fields, and the
+//! look-ups in them.
 #![tactic(auto)]
 
+mod fields;
 mod kinds;
 mod row;
 mod table;
@@ -9,7 +10,8 @@ mod table;
 mod tests;
 mod words;
 
-pub use kinds::{field_of, node_kinds};
+pub use fields::{Holds, child_field, count_child_fields, field_of};
+pub use kinds::node_kinds;
 pub use row::Row;
 pub use table::Table;
 pub use words::{keywords, punctuators};

@@ -1,6 +1,8 @@
 ghost use Rattle.es_tables.specs.Rows.{IsOrdered};
 
-use crate::{Row, Table, field_of, keywords, node_kinds, punctuators};
+use crate::{
+    Holds, Row, Table, child_field, count_child_fields, field_of, keywords, node_kinds, punctuators,
+};
 use std::test::Fail;
 
 /// The code of the row with this text.
@@ -133,8 +135,41 @@ fn fields_of_kinds(rt: HostRuntime) -> Result<(), Fail> {
         (71, "source", None),
         (65535, "body", None),
     ];
-    for (kind, name, position) in cases {
-        assert_eq!(rt; field_of(kind, name), position);
+    for (kind, name, index) in cases {
+        assert_eq!(rt; field_of(kind, name), index);
+    }
+    Ok(())
+}
+
+// By ESTree: what may be `null` is optional, an array is a list.
+#[test]
+fn what_child_fields_hold(rt: HostRuntime) -> Result<(), Fail> {
+    let cases = [
+        // Program: body, then the attribute sourceType
+        (0, 0, Some(Holds::Many), 1),
+        (0, 1, None, 1),
+        // EmptyStatement
+        (5, 0, None, 0),
+        // IfStatement: test, consequent, alternate
+        (15, 1, Some(Holds::One), 3),
+        (15, 2, Some(Holds::Optional), 3),
+        (15, 3, None, 3),
+        // CatchClause: param, body
+        (19, 0, Some(Holds::Optional), 2),
+        // ArrowFunctionExpression: params, body, then attributes
+        (27, 0, Some(Holds::Many), 2),
+        (27, 2, None, 2),
+        // Identifier, Literal
+        (34, 0, None, 0),
+        (36, 0, None, 0),
+        // ExportAllDeclaration, and past the last kind
+        (70, 1, Some(Holds::One), 2),
+        (71, 0, None, 0),
+        (65535, 65535, None, 0),
+    ];
+    for (kind, field, holds, count) in cases {
+        assert_eq!(rt; child_field(kind, field), holds);
+        assert_eq!(rt; count_child_fields(kind), count);
     }
     Ok(())
 }

@@ -26,7 +26,7 @@ static PUNCTUATORS: [Row; 57] = rows![
     "~" => 33,
 ];
 
-/// The reserved words without `await`, each with its position, from 0, in the list of them.
+/// The reserved words without `await`, each with its index, from 0, in the list of them.
 pub fn keywords() -> Table<38>
     ensures ordered { IsOrdered result.rows.now }
     ensures words { IsNumbered keyword_words result.rows.now }
@@ -34,7 +34,7 @@ pub fn keywords() -> Table<38>
     Table { rows: &KEYWORDS }
 }
 
-/// The punctuators, each with its position, from 0, in the list of them.
+/// The punctuators, each with its index, from 0, in the list of them.
 pub fn punctuators() -> Table<57>
     ensures ordered { IsOrdered result.rows.now }
     ensures words { IsNumbered punctuator_words result.rows.now }

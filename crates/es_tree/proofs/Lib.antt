@@ -1,5 +1,4 @@
-pub mod Heights
-pub mod KindLemmas
-pub mod Numbering
-pub mod Order
-pub mod Passing
+mod NumberingLemmas
+mod RowsLemmas
+mod ShapesLemmas
+mod SpansLemmas

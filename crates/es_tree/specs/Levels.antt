@@ -1,7 +1,7 @@
 -- What a node that is being made knows of itself.
 use Rattle.std.specs.Prelude.{ℕ, ◌≡◌, ◌≤◌, length}
 use Rattle.es_tree.specs.declared.shape.Shape.{Shape, out-Shape}
-use Rattle.es_tree.specs.Kinds.{child_fields}
+use Rattle.es_tables.specs.Nodes.{child_fields}
 use Rattle.es_tree.specs.Shapes.{height}
 
 pub record HasLevels (shape : Shape) (levels : ℕ) : Type 0 where

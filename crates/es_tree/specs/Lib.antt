@@ -1,6 +1,5 @@
-pub mod Kinds
 pub mod Levels
-pub mod Numbers
+pub mod Numbering
 pub mod Rows
 pub mod Shapes
 pub mod Spans

@@ -5,8 +5,8 @@ use Rattle.es_text.specs.Lists.{pushed_at}
 use Rattle.es_tree.specs.declared.shape.Shape.{Shape, out-Shape, roll-Shape}
 use Rattle.es_tree.specs.declared.shape.Shape.TheOpen.{Shape-F}
 use Rattle.es_tree.specs.declared.shape.Shape.TheFolds.{fold-Shape}
-use Rattle.es_tables.specs.Nodes.{Many}
-use Rattle.es_tree.specs.Kinds.{child_fields, held_by}
+use Rattle.es_tables.specs.declared.fields.Holds.TheVariants.{Many}
+use Rattle.es_tables.specs.Nodes.{child_fields, held_by}
 
 -- the greatest height of a child of one field, or 0
 abbrev pub tallest : List (Option ℕ) → ℕ

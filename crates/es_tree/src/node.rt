@@ -1,12 +1,12 @@
 ghost use Rattle.std.specs.Prelude.{Bool, ◌&&◌, ℕ, ◌≡◌, ◌+◌, ◌≤◌, max, [], length, replicate, IfOk, OnOk, OnErr};
 ghost use Rattle.es_tree.specs.declared.shape.Shape.{out-Shape};
-ghost use Rattle.es_tree.specs.Kinds.{IsKind, HasField, child_fields};
+ghost use Rattle.es_tables.specs.Nodes.{IsKind, HasField, child_fields};
 ghost use Rattle.es_tree.specs.Spans.{child_passes, spans_pass};
 ghost use Rattle.es_text.specs.declared.span.Span.{Span};
 ghost use Rattle.es_tree.specs.Shapes.{bare, height, height_of, with_child, HasNone, HasPlace};
 
-use crate::kind::count_fields;
 use crate::shape::Shape;
+use es_tables::count_child_fields;
 use es_text::{Items, NoMemory, Span, push_at};
 use std::alloc::Global;
 use std::marker::Model;
@@ -58,7 +58,7 @@ impl Node {
         let shape = Shape {
             kind,
             span,
-            fields: no_children(alloc, count_fields(kind))?,
+            fields: no_children(alloc, count_child_fields(kind))?,
             attributes: Items::new(alloc),
         };
         Ok(Node { shape, levels: 1 })

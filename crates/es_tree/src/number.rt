@@ -1,6 +1,6 @@
 //! Numbers the nodes of a tree.
 ghost use Rattle.std.specs.Prelude.{◌≡◌, ◌≤◌, ◌^◌, ◌++◌, length, IfOk, OnOk, OnErr};
-ghost use Rattle.es_tree.specs.Numbers.{numbered, rows_of_all, numbers_of_all, all_filled};
+ghost use Rattle.es_tree.specs.Numbering.{numbered, rows_of_all, numbers_of_all, all_filled};
 
 use crate::row::Row;
 use crate::shape::Shape;

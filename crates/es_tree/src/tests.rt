@@ -4,12 +4,13 @@ ghost use Rattle.es_tree.specs.Shapes.{height};
 
 use crate::kind::{self, PROGRAM};
 use crate::{Node, Tree};
+use es_tables::node_kinds;
 use es_text::{NoMemory, Span};
 use std::alloc::Global;
 use std::test::Fail;
 
 /// `{ debugger; } foo;`
-#[tactic(auto, unfolding(crate::specs::Kinds::fields_of))]
+#[tactic(auto, unfolding(es_tables::specs::Nodes::holds_of))]
 fn program(alloc: Global) -> Result<Node, NoMemory>
     ensures kind { IfOk result (λ root. (out-Shape root).kind ≡ PROGRAM) }
     ensures height { IfOk result (λ root. height root ≡ 3) }
@@ -31,7 +32,7 @@ fn program(alloc: Global) -> Result<Node, NoMemory>
 }
 
 /// This many blocks and then an empty statement, each the only child of the one before.
-#[tactic(auto, unfolding(crate::specs::Kinds::fields_of))]
+#[tactic(auto, unfolding(es_tables::specs::Nodes::holds_of))]
 fn chain(alloc: Global, blocks: u32) -> Result<Node, NoMemory>
     requires { blocks < 1000 }
     ensures { IfOk result (λ node. height node ≡ blocks + 1) }
@@ -105,7 +106,7 @@ fn a_small_tree(rt: HostRuntime) -> Result<(), Fail> {
 }
 
 #[test]
-#[tactic(auto, unfolding(crate::specs::Kinds::fields_of))]
+#[tactic(auto, unfolding(es_tables::specs::Nodes::holds_of))]
 fn holes_have_no_number(rt: HostRuntime) -> Result<(), Fail> {
     let mut root = Node::new(rt.alloc(), kind::PROGRAM, Span { start: 0, end: 3 })?;
     root.add(0, None)?;
@@ -130,7 +131,7 @@ fn holes_have_no_number(rt: HostRuntime) -> Result<(), Fail> {
 }
 
 #[test]
-#[tactic(auto, unfolding(crate::specs::Kinds::fields_of))]
+#[tactic(auto, unfolding(es_tables::specs::Nodes::holds_of))]
 fn a_thousand_levels(rt: HostRuntime) -> Result<(), Fail> {
     let mut root = Node::new(rt.alloc(), kind::PROGRAM, Span { start: 0, end: 1 })?;
     root.add(0, Some(chain(rt.alloc(), 998)?))?;
@@ -143,10 +144,96 @@ fn a_thousand_levels(rt: HostRuntime) -> Result<(), Fail> {
 }
 
 #[test]
-#[tactic(auto, unfolding(crate::specs::Kinds::fields_of))]
+#[tactic(auto, unfolding(es_tables::specs::Nodes::holds_of))]
 fn the_highest_node(rt: HostRuntime) -> Result<(), Fail> {
     let mut block = Node::new(rt.alloc(), kind::BLOCK_STATEMENT, Span { start: 0, end: 1 })?;
     block.add(0, Some(chain(rt.alloc(), 999)?))?;
     assert_eq!(rt; block.height(), 1001);
+    Ok(())
+}
+
+// The names of ESTree.
+#[test]
+fn each_kind_has_the_code_of_its_name(rt: HostRuntime) -> Result<(), Fail> {
+    let cases = [
+        (kind::PROGRAM, "Program"),
+        (kind::EXPRESSION_STATEMENT, "ExpressionStatement"),
+        (kind::BLOCK_STATEMENT, "BlockStatement"),
+        (kind::STATIC_BLOCK, "StaticBlock"),
+        (kind::CLASS_BODY, "ClassBody"),
+        (kind::EMPTY_STATEMENT, "EmptyStatement"),
+        (kind::DEBUGGER_STATEMENT, "DebuggerStatement"),
+        (kind::THIS_EXPRESSION, "ThisExpression"),
+        (kind::SUPER, "Super"),
+        (kind::WITH_STATEMENT, "WithStatement"),
+        (kind::RETURN_STATEMENT, "ReturnStatement"),
+        (kind::THROW_STATEMENT, "ThrowStatement"),
+        (kind::LABELED_STATEMENT, "LabeledStatement"),
+        (kind::BREAK_STATEMENT, "BreakStatement"),
+        (kind::CONTINUE_STATEMENT, "ContinueStatement"),
+        (kind::IF_STATEMENT, "IfStatement"),
+        (kind::SWITCH_STATEMENT, "SwitchStatement"),
+        (kind::SWITCH_CASE, "SwitchCase"),
+        (kind::TRY_STATEMENT, "TryStatement"),
+        (kind::CATCH_CLAUSE, "CatchClause"),
+        (kind::WHILE_STATEMENT, "WhileStatement"),
+        (kind::DO_WHILE_STATEMENT, "DoWhileStatement"),
+        (kind::FOR_STATEMENT, "ForStatement"),
+        (kind::FOR_IN_STATEMENT, "ForInStatement"),
+        (kind::FOR_OF_STATEMENT, "ForOfStatement"),
+        (kind::FUNCTION_DECLARATION, "FunctionDeclaration"),
+        (kind::FUNCTION_EXPRESSION, "FunctionExpression"),
+        (kind::ARROW_FUNCTION_EXPRESSION, "ArrowFunctionExpression"),
+        (kind::VARIABLE_DECLARATION, "VariableDeclaration"),
+        (kind::VARIABLE_DECLARATOR, "VariableDeclarator"),
+        (kind::CLASS_DECLARATION, "ClassDeclaration"),
+        (kind::CLASS_EXPRESSION, "ClassExpression"),
+        (kind::METHOD_DEFINITION, "MethodDefinition"),
+        (kind::PROPERTY_DEFINITION, "PropertyDefinition"),
+        (kind::IDENTIFIER, "Identifier"),
+        (kind::PRIVATE_IDENTIFIER, "PrivateIdentifier"),
+        (kind::LITERAL, "Literal"),
+        (kind::ARRAY_EXPRESSION, "ArrayExpression"),
+        (kind::ARRAY_PATTERN, "ArrayPattern"),
+        (kind::OBJECT_EXPRESSION, "ObjectExpression"),
+        (kind::OBJECT_PATTERN, "ObjectPattern"),
+        (kind::PROPERTY, "Property"),
+        (kind::UNARY_EXPRESSION, "UnaryExpression"),
+        (kind::UPDATE_EXPRESSION, "UpdateExpression"),
+        (kind::BINARY_EXPRESSION, "BinaryExpression"),
+        (kind::LOGICAL_EXPRESSION, "LogicalExpression"),
+        (kind::ASSIGNMENT_EXPRESSION, "AssignmentExpression"),
+        (kind::ASSIGNMENT_PATTERN, "AssignmentPattern"),
+        (kind::MEMBER_EXPRESSION, "MemberExpression"),
+        (kind::CALL_EXPRESSION, "CallExpression"),
+        (kind::NEW_EXPRESSION, "NewExpression"),
+        (kind::CONDITIONAL_EXPRESSION, "ConditionalExpression"),
+        (kind::SEQUENCE_EXPRESSION, "SequenceExpression"),
+        (kind::YIELD_EXPRESSION, "YieldExpression"),
+        (kind::AWAIT_EXPRESSION, "AwaitExpression"),
+        (kind::SPREAD_ELEMENT, "SpreadElement"),
+        (kind::REST_ELEMENT, "RestElement"),
+        (kind::TEMPLATE_LITERAL, "TemplateLiteral"),
+        (kind::TEMPLATE_ELEMENT, "TemplateElement"),
+        (kind::TAGGED_TEMPLATE_EXPRESSION, "TaggedTemplateExpression"),
+        (kind::CHAIN_EXPRESSION, "ChainExpression"),
+        (kind::IMPORT_EXPRESSION, "ImportExpression"),
+        (kind::META_PROPERTY, "MetaProperty"),
+        (kind::IMPORT_DECLARATION, "ImportDeclaration"),
+        (kind::IMPORT_SPECIFIER, "ImportSpecifier"),
+        (kind::IMPORT_DEFAULT_SPECIFIER, "ImportDefaultSpecifier"),
+        (kind::IMPORT_NAMESPACE_SPECIFIER, "ImportNamespaceSpecifier"),
+        (kind::EXPORT_NAMED_DECLARATION, "ExportNamedDeclaration"),
+        (kind::EXPORT_SPECIFIER, "ExportSpecifier"),
+        (kind::EXPORT_DEFAULT_DECLARATION, "ExportDefaultDeclaration"),
+        (kind::EXPORT_ALL_DECLARATION, "ExportAllDeclaration"),
+    ];
+    let kinds = node_kinds();
+    for (code, name) in cases {
+        assert!(rt;
+            kinds.find(name).is_some_and(|row| row.code == code),
+            "{name}"
+        );
+    }
     Ok(())
 }

@@ -1,7 +1,7 @@
 ghost use Rattle.std.specs.Prelude.{Bool, true, ◌≡◌, ◌<◌, ◌≤◌, ◌↔◌, length, Some, IsNone, IfSome, IfOk};
 ghost use Rattle.es_tree.specs.declared.shape.Shape.{out-Shape};
 ghost use Rattle.es_tree.specs.Shapes.{height};
-ghost use Rattle.es_tree.specs.Numbers.{rows_of};
+ghost use Rattle.es_tree.specs.Numbering.{rows_of};
 ghost use Rattle.std.specs.List.{list_all};
 ghost use Rattle.es_text.specs.declared.span.Span.{Span};
 ghost use Rattle.es_tree.specs.Spans.{spans_pass};

@@ -2,8 +2,8 @@ use Rattle.std.proofs.Common.{◌≡◌, ℕ, ◌+◌, ◌≤◌, max, Some}
 use Rattle.std.specs.Vec.Iter.{into_iter_items}
 use Rattle.es_tree.specs.declared.shape.Shape.{out-Shape}
 use Rattle.es_tree.specs.Shapes.{height}
-use Rattle.es_tables.specs.Nodes.{Many}
-use Rattle.es_tree.specs.Kinds.{held_by}
+use Rattle.es_tables.specs.declared.fields.Holds.TheVariants.{Many}
+use Rattle.es_tables.specs.Nodes.{held_by}
 use Rattle.es_run.specs.SmallText.{with_children}
 use Rattle.es_run.specs.Inside.{AreInside, IsInside}
 use Rattle.es_run.specs.Reading.{greatest_height}

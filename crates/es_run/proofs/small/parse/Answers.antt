@@ -1,6 +1,6 @@
 use Rattle.std.proofs.Common.{◌∙◌, ap, subst, arith, length}
 use Rattle.std.specs.Prelude.{IfSome}
-use Rattle.es_tree.specs.Numbers.{rows_of}
+use Rattle.es_tree.specs.Numbering.{rows_of}
 use Rattle.es_run.specs.Found.{AreFront}
 use Rattle.es_run.specs.Inside.{AreInside, IsInside, is_inside}
 use Rattle.es_run.specs.SmallText.{with_children, most_blocks}

@@ -1,6 +1,6 @@
 use Rattle.std.proofs.Common.{refl}
 use Rattle.es_tables.specs.Words.{keyword_words}
-use Rattle.es_tables.proofs.Numbers.{ordered_from_test, numbered_from_test}
+use Rattle.es_tables.proofs.RowsLemmas.{ordered_from_test, numbered_from_test}
 use Rattle.es_tables.proofs.words.keywords.Goals as goal
 
 -- the checker computes both tests over the whole table

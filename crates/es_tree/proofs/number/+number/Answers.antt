@@ -2,8 +2,8 @@ use Rattle.std.proofs.Common.{◌≡◌, ◌∙◌, ◌++◌, ◌∷◌, [], sym
 use Rattle.std.proofs.lemmas.Grind.{common_steps}
 use Rattle.std.proofs.lemmas.List.{nil_from_length}
 use Rattle.es_tree.specs.declared.shape.Shape.{out-Shape}
-use Rattle.es_tree.specs.Numbers.{numbered, row_of}
-use Rattle.es_tree.proofs.Numbering.{number-done, with_numbers, filled-push, filled-hole, all_filled-push, rows-child, numbers-child, rows-field, numbers-field}
+use Rattle.es_tree.specs.Numbering.{numbered, row_of}
+use Rattle.es_tree.proofs.NumberingLemmas.{number-done, with_numbers, filled-push, filled-hole, all_filled-push, rows-child, numbers-child, rows-field, numbers-field}
 use Rattle.es_tree.proofs.number.+number.Goals as goal
 
 pub number-returns : goal.number-returns

@@ -1,5 +1,5 @@
 use Rattle.std.proofs.Common.{◌≡◌, ◌+◌, ◌++◌, ◌∷◌, length}
-use Rattle.es_tree.specs.Numbers.{numbered, rows_in, numbers_in, rows_of_all, numbers_of_all, filled, all_filled}
+use Rattle.es_tree.specs.Numbering.{numbered, rows_in, numbers_in, rows_of_all, numbers_of_all, filled, all_filled}
 use Rattle.es_tree.proofs.number.+number.Given as goal
 
 abbrev pub invariant-number_children-loop-field : goal.invariant-number_children-loop-field

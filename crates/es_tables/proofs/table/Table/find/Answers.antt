@@ -2,7 +2,7 @@ use Rattle.std.proofs.Common.{rules}
 use Rattle.std.specs.Ordering.{nat_cmp}
 use Rattle.std.specs.Cmp.Lexicographic.{slice_cmp}
 use Rattle.std.proofs.lemmas.Fn.{always_returns_same}
-use Rattle.es_tables.proofs.Searches.{comparisons_rise, equal_texts, none_is_equal}
+use Rattle.es_tables.proofs.SearchesLemmas.{comparisons_rise, equal_texts, none_is_equal}
 use Rattle.es_tables.proofs.table.Table.find.Goals as goal
 
 -- the search compares the rows' texts with the one that is looked for

@@ -1,7 +1,7 @@
 use Rattle.std.proofs.Common.{rules, subst, sym}
 use Rattle.std.specs.Option.{option_copied}
 use Rattle.std.proofs.lemmas.List.Sorted.{IsPartitionPoint-from_clause}
-use Rattle.es_tables.proofs.Searches.{Outcome, is_not_after, are_parted, search_outcome, answer_stands, answer_is_longest, none_is_prefix, le_tested}
+use Rattle.es_tables.proofs.SearchesLemmas.{Outcome, is_not_after, are_parted, search_outcome, answer_stands, answer_is_longest, none_is_prefix, le_tested}
 use Rattle.es_tables.proofs.table.Table.longest.Given.{Over}
 use Rattle.es_tables.proofs.table.Table.longest.Goals as goal
 

@@ -1,7 +1,6 @@
 use Rattle.std.proofs.Common.{◌∙◌, ap, length, rules, arith}
-use Rattle.es_tree.proofs.KindLemmas.{field_within}
-use Rattle.es_tree.proofs.Heights.{height-with_child, length-pushed_at, lists-kept}
-use Rattle.es_tree.proofs.Passing.{spans_pass-with_child}
+use Rattle.es_tree.proofs.ShapesLemmas.{field_within, height-with_child, length-pushed_at, lists-kept}
+use Rattle.es_tree.proofs.SpansLemmas.{spans_pass-with_child}
 use Rattle.es_tree.proofs.node.Node.add.Goals as goal
 
 pub invariant_of-self-then-self-levels : goal.invariant_of-self-then-self-levels

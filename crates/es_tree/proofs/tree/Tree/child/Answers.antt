@@ -2,7 +2,7 @@ use Rattle.std.proofs.Common.{◌≡◌, arith, Some}
 use Rattle.std.proofs.lemmas.Grind.{common_steps}
 use Rattle.std.proofs.lemmas.Option.{gets}
 use Rattle.es_tree.specs.Rows.{child_of}
-use Rattle.es_tree.proofs.Order.{child-after, child-within}
+use Rattle.es_tree.proofs.RowsLemmas.{child-after, child-within}
 use Rattle.es_tree.proofs.tree.Tree.child.Goals as goal
 
 pub returns-clause-after : goal.returns-clause-after

@@ -1,7 +1,7 @@
 use Rattle.std.proofs.Common.{◌≡◌, ◌∙◌, length, ap, refl}
-use Rattle.es_tree.specs.Numbers.{rows_of}
-use Rattle.es_tree.proofs.Order.{is_numbered}
-use Rattle.es_tree.proofs.Passing.{list_all-rows_of}
+use Rattle.es_tree.specs.Numbering.{rows_of}
+use Rattle.es_tree.proofs.RowsLemmas.{is_numbered}
+use Rattle.es_tree.proofs.SpansLemmas.{list_all-rows_of}
 use Rattle.es_tree.proofs.tree.Tree.new.Goals as goal
 
 pub invariant_of-result : goal.invariant_of-result

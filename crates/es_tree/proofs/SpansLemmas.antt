@@ -10,11 +10,11 @@ use Rattle.es_tree.specs.declared.shape.Shape.TheOpen.{Shape-F}
 use Rattle.es_tree.specs.declared.shape.Shape.TheShapes.{former-Shape-fields, former-Shape-fields-at-2}
 use Rattle.es_tree.specs.declared.shape.Shape.TheFolds.{fold-roll-Shape, fold_out-Shape, ind-Shape}
 use Rattle.es_tree.specs.declared.shape.Shape.TheViews.{out-roll-Shape}
-use Rattle.es_tree.specs.Kinds.{child_fields}
-use Rattle.es_tree.specs.Numbers.{rows_in, rows_of_all, numbers_of_all, row_of, numbered, rows_of}
+use Rattle.es_tables.specs.Nodes.{child_fields}
+use Rattle.es_tree.specs.Numbering.{rows_in, rows_of_all, numbers_of_all, row_of, numbered, rows_of}
 use Rattle.es_tree.specs.Shapes.{bare, with_child}
 use Rattle.es_tree.specs.Spans.{all_pass, all_fields_pass, passes_step, spans_pass, child_passes}
-use Rattle.es_tree.proofs.Numbering.{numbered-layer}
+use Rattle.es_tree.proofs.NumberingLemmas.{numbered-layer}
 
 and_first : (a b : Bool) → a && b ≡ true → a ≡ true
 and_first true b h = refl

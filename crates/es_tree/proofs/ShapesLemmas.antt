@@ -1,6 +1,6 @@
 -- The height of a tree to which a child is added.
 use Rattle.std.proofs.Common.{◌≡◌, ℕ, zero, suc, ◌+◌, ◌<◌, max, List, [], ◌∷◌, ◌++◌, length, replicate, arith, refl}
-use Rattle.std.specs.Prelude.{Option, Some, None, slice_get}
+use Rattle.std.specs.Prelude.{Option, Some, None, IsSome, slice_get}
 use Rattle.std.proofs.lemmas.List.{length-replicate}
 use Rattle.es_text.specs.declared.span.Span.{Span}
 use Rattle.es_text.specs.Lists.{pushed_at}
@@ -9,7 +9,7 @@ use Rattle.es_tree.specs.declared.shape.Shape.TheOpen.{Shape-F}
 use Rattle.es_tree.specs.declared.shape.Shape.TheShapes.{former-Shape-fields, former-Shape-fields-at-2}
 use Rattle.es_tree.specs.declared.shape.Shape.TheFolds.{fold-roll-Shape, fold_out-Shape}
 use Rattle.es_tree.specs.declared.shape.Shape.TheViews.{out-roll-Shape}
-use Rattle.es_tree.specs.Kinds.{child_fields}
+use Rattle.es_tables.specs.Nodes.{HasField, child_fields}
 use Rattle.es_tree.specs.Shapes.{bare, HasNone, tallest, tallest_of_all, height_step, height, height_of, with_child}
 
 -- the heights in place of the children, of one field and of all
@@ -80,3 +80,12 @@ pub lists-kept : (shape : Shape) (lists : List (List (Option Shape))) → length
     → length (out-Shape (roll-Shape (record (out-Shape shape) { fields = lists }))).fields
     ≡ length (child_fields (out-Shape (roll-Shape (record (out-Shape shape) { fields = lists }))).kind)
 lists-kept shape lists same = rw (out-roll-Shape (record (out-Shape shape) { fields = lists })) same
+
+-- a field that a kind has stands in the list of its child fields
+in_list : {A : Type 0} (list : List A) (at : ℕ) → IsSome (slice_get list at) → at < length list
+in_list [] at some = absurd (cc)
+in_list (first ∷ rest) zero some = omega arith
+in_list (first ∷ rest) (suc at) some = let within = in_list rest at some in omega (arith, within)
+
+pub field_within : (kind field : ℕ) → HasField kind field → field < length (child_fields kind)
+field_within kind field has = in_list (child_fields kind) field has

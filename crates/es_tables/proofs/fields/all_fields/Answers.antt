@@ -1,5 +1,5 @@
 use Rattle.std.proofs.Common.{refl}
-use Rattle.es_tables.proofs.kinds.kind_names.Goals as goal
+use Rattle.es_tables.proofs.fields.all_fields.Goals as goal
 
 -- the checker computes over the whole table
 pub returns : goal.returns

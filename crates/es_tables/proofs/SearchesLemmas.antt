@@ -19,7 +19,7 @@ use Rattle.std.proofs.lemmas.List.Sorted.{searchable_from_sorted, IsPermutation-
 use Rattle.es_tables.specs.declared.row.Row.{Row}
 use Rattle.es_tables.specs.Rows.{entries, HasRow, IsOrdered, IsPrefix, IsLongestPrefix}
 use Rattle.es_tables.specs.Searches.{begins_like, last_prefix_in}
-use Rattle.es_tables.proofs.Prefixes.{prefix_not_after, earlier_is_shorter, prefix_begins_like, no_prefix_before}
+use Rattle.es_tables.proofs.PrefixLemmas.{prefix_not_after, earlier_is_shorter, prefix_begins_like, no_prefix_before}
 
 -- the text of the first comes before that of the second
 abbrev Before : Row → Row → Type 0

@@ -1,7 +1,7 @@
 -- In a numbered tree each child comes after its parent, and each node but the first has a parent.
 use Rattle.std.proofs.Common.{◌≡◌, ◌∙◌, ◌⊎◌, inl, inr, ℕ, zero, suc, ◌+◌, ◌<◌, ◌≤◌, List, [], ◌∷◌, ◌++◌, Option, Some, None, length, sym, ap, refl, subst, arith, length-append}
 use Rattle.std.specs.Prelude.{slice_get, IfSome}
-use Rattle.es_tree.specs.Numbers.{rows_in, numbers_in, rows_of_all, numbers_of_all, filled, all_filled, row_of, numbered, rows_of}
+use Rattle.es_tree.specs.Numbering.{rows_in, numbers_in, rows_of_all, numbers_of_all, filled, all_filled, row_of, numbered, rows_of}
 use Rattle.es_tree.specs.Rows.{parent_of, child_of, IsNumbered}
 use Rattle.es_tree.specs.declared.row.Row.{Row}
 use Rattle.es_tree.specs.declared.shape.Shape.{Shape, roll-Shape}
@@ -9,7 +9,7 @@ use Rattle.es_tree.specs.declared.shape.Shape.TheOpen.{Shape-F}
 use Rattle.es_tree.specs.declared.shape.Shape.TheShapes.{former-Shape-fields, former-Shape-fields-at-2}
 use Rattle.es_tree.specs.declared.shape.Shape.TheFolds.{ind-Shape}
 use Rattle.es_tree.specs.declared.shape.Shape.TheViews.{out-roll-Shape}
-use Rattle.es_tree.proofs.Numbering.{numbered-layer}
+use Rattle.es_tree.proofs.NumberingLemmas.{numbered-layer}
 
 -- the numbers are from `low` on and below `high`
 abbrev Within : ℕ → ℕ → List ℕ → Type 0
