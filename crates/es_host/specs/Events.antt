@@ -2,7 +2,7 @@
 use Rattle.std.specs.Prelude.{ℕ, List, Option}
 use Rattle.es_text.specs.declared.span.Span.{Span}
 use Rattle.es_text.specs.Texts.{Text}
-use Rattle.es_tree.specs.declared.row.Row.{Row}
+use Rattle.es_tree.specs.Rows.{Row}
 use Rattle.es_tree.specs.Rows.{span_of}
 use Rattle.es_host.specs.declared.ctx.Ctx.{Ctx}
 

@@ -2,7 +2,7 @@
 -- a rule hears of the nodes whose kinds it asked for.
 use Rattle.std.specs.Prelude.{◌≡◌, ℕ, zero, suc, Bool, false, eqb, List, [], ◌∷◌, ◌++◌, length, map, Option, Some, None}
 use Rattle.std.specs.List.{filter, list_any, range_with_len}
-use Rattle.es_tree.specs.declared.row.Row.{Row}
+use Rattle.es_tree.specs.Rows.{Row}
 use Rattle.es_tree.specs.Rows.{kind_of, parent_of}
 use Rattle.es_host.specs.Events.{File, Event, Enter}
 

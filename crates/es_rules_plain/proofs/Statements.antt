@@ -14,7 +14,7 @@ use borrow.Author.Tests.{ltb-true}
 use Rattle.es_text.specs.declared.span.Span.{Span}
 use Rattle.es_text.specs.Texts.{Text, text_bytes}
 use Rattle.es_tree.specs.declared.kind.TheConstants.{DEBUGGER_STATEMENT}
-use Rattle.es_tree.specs.declared.row.Row.{Row}
+use Rattle.es_tree.specs.Rows.{Row}
 use Rattle.es_host.specs.Events.{Event, entered_span, pair}
 use Rattle.es_host.specs.Lawful.{entered, entries, hears, is_one_of}
 use Rattle.es_host.specs.Spans.{findings_fit, is_part, spans_fit}

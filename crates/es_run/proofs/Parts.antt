@@ -10,7 +10,7 @@ use Rattle.std.proofs.lemmas.List.Sorted.{All-permutation}
 use Rattle.std.proofs.lemmas.List.Sums.{AllPass-from_list_all, list_all-from_AllPass}
 use Rattle.es_text.specs.declared.finding.Report.{Report}
 use Rattle.es_text.specs.declared.span.Span.{Span}
-use Rattle.es_tree.specs.declared.row.Row.{Row}
+use Rattle.es_tree.specs.Rows.{Row}
 use Rattle.es_host.specs.Spans.{begins_character, is_boundary, is_part}
 use Rattle.es_run.specs.Inside.{is_inside}
 

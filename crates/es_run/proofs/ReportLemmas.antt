@@ -7,7 +7,7 @@ use Rattle.std.specs.Str.{IsAscii}
 use Rattle.std.proofs.lemmas.Str.{encodes-IsAscii}
 use Rattle.es_text.specs.declared.finding.Report.{Report}
 use Rattle.es_text.specs.Texts.{Text, text_bytes, text_of}
-use Rattle.es_tree.specs.declared.row.Row.{Row}
+use Rattle.es_tree.specs.Rows.{Row}
 use Rattle.es_host.specs.Events.{File, pair}
 use Rattle.es_host.specs.Spans.{is_part, spans_fit}
 use Rattle.es_run.specs.declared.report.Outcome.{Outcome}

@@ -1,4 +1,7 @@
+mod AttributesLemmas
+mod EntriesLemmas
 mod NumberingLemmas
+mod PartsLemmas
 mod RowsLemmas
 mod ShapesLemmas
 mod SpansLemmas

@@ -1,8 +1,7 @@
 -- One layer of the numbering, and the row that gets its numbers once its children have rows.
 use Rattle.std.proofs.Common.{◌≡◌, ◌∙◌, ◌+◌, ◌++◌, List, [], ◌∷◌, Option, Some, None, ℕ, length, sym, ap, refl, get_or, length-append, append_assoc, append-nil, add_assoc, add-zero}
-use Rattle.std.proofs.Math.ListN.{set}
 use Rattle.es_tree.specs.Numbering.{Numbering, rows_in, numbers_in, rows_of_all, numbers_of_all, filled, all_filled, row_of, node_rows, numbered}
-use Rattle.es_tree.specs.declared.row.Row.{Row}
+use Rattle.es_tree.specs.Rows.{Row, childless, with_children}
 use Rattle.es_tree.specs.declared.shape.Shape.{Shape, out-Shape}
 use Rattle.es_tree.specs.declared.shape.Shape.TheShapes.{former-Shape-fields, former-Shape-fields-at-2}
 use Rattle.es_tree.specs.declared.shape.Shape.TheFolds.{fold_out-Shape}
@@ -50,40 +49,33 @@ numbered-layer shape parent at =
     ap (λ numbering. numbering parent at) (fold_out-Shape Numbering node_rows shape)
     ∙ rw (rows_of_all-layer numbered at (at + 1) (out-Shape shape).fields, numbers_of_all-layer numbered at (at + 1) (out-Shape shape).fields) refl
 
--- the row that was pushed with no children gets them
-abbrev pub with_numbers : Row → List (List (Option ℕ)) → List ℕ → Row
-with_numbers row numbers children = record row { fields = numbers; children = children }
+-- the row that was put at the end without children gets them
+set-pushed : (old rows : List Row) (row : Row) (numbers : List (List (Option ℕ))) (children : List ℕ)
+    → with_children ((old ++ row ∷ []) ++ rows) (length old) numbers children
+    ≡ old ++ record row { fields = numbers; children = children } ∷ rows
+set-pushed [] rows row numbers children = refl
+set-pushed (first ∷ old) rows row numbers children = ap (λ rest. first ∷ rest) (set-pushed old rows row numbers children)
 
-set-pushed : (old rows : List Row) (row found : Row) (numbers : List (List (Option ℕ))) (children : List ℕ)
-    → found ≡ get_or ((old ++ row ∷ []) ++ rows) (length old) found
-    → set ((old ++ row ∷ []) ++ rows) (length old) (with_numbers found numbers children)
-    ≡ old ++ with_numbers row numbers children ∷ rows
-set-pushed [] rows row found numbers children is = ap (λ r. with_numbers r numbers children ∷ rows) is
-set-pushed (first ∷ old) rows row found numbers children is =
-    ap (λ rest. first ∷ rest) (set-pushed old rows row found numbers children is)
-
-pub number-done : (old pushed new : List Row) (shape : Shape) (parent : Option ℕ) (at : ℕ) (found : Row) (numbers : List (List (Option ℕ))) (children : List ℕ)
+pub number-done : (old pushed new done : List Row) (shape : Shape) (parent : Option ℕ) (at : ℕ) (numbers : List (List (Option ℕ))) (children : List ℕ)
     → at ≡ length old
-    → pushed ≡ old ++ with_numbers (row_of (out-Shape shape) parent []) [] [] ∷ []
+    → pushed ≡ old ++ childless (out-Shape shape).kind (out-Shape shape).span parent (out-Shape shape).attributes ∷ []
     → new ≡ pushed ++ rows_of_all numbered at (length pushed) (out-Shape shape).fields
     → numbers ≡ numbers_of_all numbered at (length pushed) (out-Shape shape).fields
     → children ≡ all_filled numbers
-    → found ≡ get_or new at found
-    → set new at (with_numbers found numbers children) ≡ old ++ numbered shape parent (length old)
-number-done old pushed new shape parent at found numbers children first push rows named filling is =
-    let row : Row = row_of (out-Shape shape) parent [] in
+    → done ≡ with_children new at numbers children
+    → done ≡ old ++ numbered shape parent (length old)
+number-done old pushed new done shape parent at numbers children first push rows named filling is =
+    let row : Row = childless (out-Shape shape).kind (out-Shape shape).span parent (out-Shape shape).attributes in
     let long : length pushed ≡ at + 1 = ap length push ∙ length-append old _ ∙ ap (λ n. n + 1) (sym first) in
     let below : List Row = rows_of_all numbered at (at + 1) (out-Shape shape).fields in
     let whole : new ≡ (old ++ row ∷ []) ++ below =
     rows ∙ ap (λ n. pushed ++ rows_of_all numbered at n (out-Shape shape).fields) long ∙ ap (λ p. p ++ below) push in
-    let here : found ≡ get_or ((old ++ row ∷ []) ++ below) (length old) found =
-    is ∙ ap (λ n. get_or n at found) whole ∙ ap (λ n. get_or ((old ++ row ∷ []) ++ below) n found) first in
     let numbers_are : numbers ≡ numbers_of_all numbered at (at + 1) (out-Shape shape).fields =
     named ∙ ap (λ n. numbers_of_all numbered at n (out-Shape shape).fields) long in
-    ap (λ n. set n at (with_numbers found numbers children)) whole
-    ∙ ap (λ n. set ((old ++ row ∷ []) ++ below) n (with_numbers found numbers children)) first
-    ∙ set-pushed old below row found numbers children here
-    ∙ ap (λ c. old ++ with_numbers row numbers c ∷ below) filling
+    is ∙ ap (λ n. with_children n at numbers children) whole
+    ∙ ap (λ n. with_children ((old ++ row ∷ []) ++ below) n numbers children) first
+    ∙ set-pushed old below row numbers children
+    ∙ ap (λ c. old ++ record row { fields = numbers; children = c } ∷ below) filling
     ∙ ap (λ n. old ++ row_of (out-Shape shape) parent n ∷ below) numbers_are
     ∙ ap (λ r. old ++ r) (sym (numbered-layer shape parent at))
     ∙ ap (λ n. old ++ numbered shape parent n) first

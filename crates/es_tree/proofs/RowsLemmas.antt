@@ -3,7 +3,7 @@ use Rattle.std.proofs.Common.{◌≡◌, ◌∙◌, ◌⊎◌, inl, inr, ℕ, ze
 use Rattle.std.specs.Prelude.{slice_get, IfSome}
 use Rattle.es_tree.specs.Numbering.{rows_in, numbers_in, rows_of_all, numbers_of_all, filled, all_filled, row_of, numbered, rows_of}
 use Rattle.es_tree.specs.Rows.{parent_of, child_of, IsNumbered}
-use Rattle.es_tree.specs.declared.row.Row.{Row}
+use Rattle.es_tree.specs.Rows.{Row}
 use Rattle.es_tree.specs.declared.shape.Shape.{Shape, roll-Shape}
 use Rattle.es_tree.specs.declared.shape.Shape.TheOpen.{Shape-F}
 use Rattle.es_tree.specs.declared.shape.Shape.TheShapes.{former-Shape-fields, former-Shape-fields-at-2}

@@ -4,7 +4,7 @@ use Rattle.std.specs.Prelude.{◌&&◌, Option, Some, None, replicate}
 use Rattle.std.specs.List.{list_all}
 use Rattle.es_text.specs.Lists.{pushed_at}
 use Rattle.es_text.specs.declared.span.Span.{Span}
-use Rattle.es_tree.specs.declared.row.Row.{Row}
+use Rattle.es_tree.specs.Rows.{Row}
 use Rattle.es_tree.specs.declared.shape.Shape.{Shape, out-Shape, roll-Shape}
 use Rattle.es_tree.specs.declared.shape.Shape.TheOpen.{Shape-F}
 use Rattle.es_tree.specs.declared.shape.Shape.TheShapes.{former-Shape-fields, former-Shape-fields-at-2}

@@ -1,7 +1,7 @@
 -- The nodes of a tree by number. The walk takes a node before its children, and the children field by
 -- field in the order of the kind's table; a node's number is how many nodes the walk took before it.
 use Rattle.std.specs.Prelude.{ℕ, ◌+◌, List, [], ◌∷◌, ◌++◌, length, Option, Some, None}
-use Rattle.es_tree.specs.declared.row.Row.{Row}
+use Rattle.es_tree.specs.Rows.{Row}
 use Rattle.es_tree.specs.declared.shape.Shape.{Shape}
 use Rattle.es_tree.specs.declared.shape.Shape.TheOpen.{Shape-F}
 use Rattle.es_tree.specs.declared.shape.Shape.TheFolds.{fold-Shape}

@@ -1,7 +1,9 @@
--- What trees are: their heights, and the child that is added to one.
+-- What trees are: their heights, and the child or the attribute that is added to one.
 use Rattle.std.specs.Prelude.{ℕ, ◌≡◌, ◌+◌, ◌⊎◌, max, List, [], ◌∷◌, length, replicate, Option, None, Some, IsSome, slice_get}
 use Rattle.es_text.specs.declared.span.Span.{Span}
 use Rattle.es_text.specs.Lists.{pushed_at}
+use Rattle.es_tree.specs.Attributes.{attributes_with}
+use Rattle.es_tree.specs.declared.shape.AttributeValue.{AttributeValue}
 use Rattle.es_tree.specs.declared.shape.Shape.{Shape, out-Shape, roll-Shape}
 use Rattle.es_tree.specs.declared.shape.Shape.TheOpen.{Shape-F}
 use Rattle.es_tree.specs.declared.shape.Shape.TheFolds.{fold-Shape}
@@ -44,6 +46,11 @@ bare kind span = node_of kind span (replicate (length (child_fields kind)) [])
 abbrev pub with_child : Shape → ℕ → Option Shape → Shape
 with_child shape field child =
     roll-Shape (record (out-Shape shape) { fields = pushed_at (out-Shape shape).fields field child })
+
+-- the node with this value of the attribute, in place of any earlier one
+abbrev pub with_attribute : Shape → ℕ → AttributeValue → Shape
+with_attribute shape field value =
+    roll-Shape (record (out-Shape shape) { attributes = attributes_with (out-Shape shape).attributes field value })
 
 -- the field has a list, which holds nothing yet
 abbrev pub HasNone : Shape → ℕ → Type 0

@@ -2,16 +2,21 @@
 //! numbers.
 #![tactic(auto)]
 
+mod attribute;
+mod child_lists;
 pub mod kind;
 mod node;
 mod number;
-mod row;
+mod parsed;
+mod part;
+mod rows;
 mod shape;
 #[cfg(test)]
 mod tests;
 mod tree;
 
+pub use attribute::Attribute;
 pub use node::Node;
-pub use row::Row;
+pub use parsed::Parsed;
 pub use shape::{AttributeValue, SetAttribute, Shape};
 pub use tree::Tree;

@@ -1,25 +1,28 @@
-ghost use Rattle.std.specs.Prelude.{Bool, ◌&&◌, ℕ, ◌≡◌, ◌+◌, ◌≤◌, max, [], length, replicate, IfOk, OnOk, OnErr};
+ghost use Rattle.std.specs.Prelude.{Bool, ◌&&◌, ◌==◌, ℕ, ◌≡◌, ◌+◌, ◌≤◌, max, [], length, position, replicate, IsSome, IfSome, IfOk, OnOk, OnErr};
 ghost use Rattle.es_tree.specs.declared.shape.Shape.{out-Shape};
-ghost use Rattle.es_tables.specs.Nodes.{IsKind, HasField, child_fields};
+ghost use Rattle.es_tables.specs.Nodes.{IsKind, HasAttribute, HasField, child_fields};
+ghost use Rattle.es_tree.specs.Attributes.{attributes_with, value_in};
 ghost use Rattle.es_tree.specs.Spans.{child_passes, spans_pass};
 ghost use Rattle.es_text.specs.declared.span.Span.{Span};
-ghost use Rattle.es_tree.specs.Shapes.{bare, height, height_of, with_child, HasNone, HasPlace};
+ghost use Rattle.es_tree.specs.Shapes.{bare, height, height_of, with_attribute, with_child, HasNone, HasPlace};
 
-use crate::shape::Shape;
+use crate::attribute::Attribute;
+use crate::shape::{AttributeValue, SetAttribute, Shape};
 use es_tables::count_child_fields;
 use es_text::{Items, NoMemory, Span, push_at};
 use std::alloc::Global;
 use std::marker::Model;
+use std::mem;
 
 /// This many lists of no children.
 fn no_children(alloc: Global, count: usize) -> Result<Items<Items<Option<Shape>>>, NoMemory>
     ensures { IfOk result (λ fields. fields ≡ replicate count []) }
 {
-    let mut fields = Items::new(alloc);
+    let mut fields = Vec::with_capacity(alloc, count)?;
     for _ in 0..count {
         fields.push(Items::new(alloc))?;
     }
-    Ok(fields)
+    Ok(Items::from_vec(fields))
 }
 
 /// A node that is being made, with all below it. Its height is kept and never recomputed.
@@ -103,4 +106,46 @@ impl Node {
         }
         Ok(())
     }
+
+    /// Gives the attribute this value, in place of any earlier one. The field is the attribute's code: its
+    /// index, from 0, among the fields of the kind, child fields first. After `NoMemory` the node is as
+    /// before.
+    pub fn set(&mut self, alloc: Global, field: u16, value: Attribute) -> Result<(), NoMemory>
+        requires attribute { HasAttribute (out-Shape self.old).kind field }
+        requires value { IsSome (value_in value) }
+        ensures ok { IfSome (value_in value.entry) (λ given. OnOk result (self.new ≡ with_attribute self.old field given)) }
+        ensures kind { (out-Shape self.new).kind ≡ (out-Shape self.old).kind }
+        ensures height { height self.new ≡ height self.old }
+        ensures spans { (test : Span → Bool) → spans_pass test self.new ≡ spans_pass test self.old }
+        ensures err { OnErr result (self.new ≡ self.old) }
+    {
+        let value = AttributeValue::of(alloc, value)?;
+        let attributes = &mut self.shape.attributes;
+        let mut all = mem::replace(attributes, Items::new(alloc)).into_vec();
+        let done = give(&mut all, SetAttribute { field, value });
+        *attributes = Items::from_vec(all);
+        done
+    }
+}
+
+/// Puts the attribute in place of the one of its field, or at the end where none has the field.
+fn give(attributes: &mut Vec<SetAttribute>, new: SetAttribute) -> Result<(), NoMemory>
+    ensures ok { OnOk result (attributes.new.items ≡ attributes_with attributes.old.items new.field new.value) }
+    ensures err { OnErr result (attributes.new.items ≡ attributes.old.items) }
+{
+    match index_of(attributes, new.field) {
+        Some(index) => attributes[index] = new,
+        None => {
+            attributes.try_reserve_exact(1)?;
+            attributes.push(new)?;
+        }
+    }
+    Ok(())
+}
+
+/// The index of the attribute with this field.
+fn index_of(attributes: &[SetAttribute], field: u16) -> Option<usize>
+    ensures { result ≡ position (λ given. given.field == field) attributes.now }
+{
+    attributes.iter().position(|given| given.field == field)
 }

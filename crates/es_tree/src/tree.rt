@@ -1,16 +1,21 @@
-ghost use Rattle.std.specs.Prelude.{Bool, true, ◌≡◌, ◌<◌, ◌≤◌, ◌↔◌, length, Some, IsNone, IfSome, IfOk};
-ghost use Rattle.es_tree.specs.declared.shape.Shape.{out-Shape};
-ghost use Rattle.es_tree.specs.Shapes.{height};
-ghost use Rattle.es_tree.specs.Numbering.{rows_of};
+ghost use Rattle.std.specs.Prelude.{Bool, true, ◌≡◌, ◌<◌, ◌≤◌, ◌↔◌, length, Some, None, IsNone, IfSome, IfOk};
 ghost use Rattle.std.specs.List.{list_all};
 ghost use Rattle.es_text.specs.declared.span.Span.{Span};
+ghost use Rattle.es_tree.specs.declared.shape.Shape.{out-Shape};
+ghost use Rattle.es_tree.specs.Attributes.{length_in, value_in};
+ghost use Rattle.es_tree.specs.Numbering.{rows_of};
+ghost use Rattle.es_tree.specs.Rows.{kind_of, span_of, parent_of, child_of, field_child_of, value_among, value_of, length_of, IsNumbered};
+ghost use Rattle.es_tree.specs.Shapes.{height};
 ghost use Rattle.es_tree.specs.Spans.{spans_pass};
-ghost use Rattle.es_tree.specs.Rows.{kind_of, span_of, parent_of, child_of, IsNumbered};
 
+use crate::attribute::Attribute;
 use crate::kind::PROGRAM;
 use crate::node::Node;
-use crate::number::{next_number, number};
-use crate::row::Row;
+use crate::number::number;
+use crate::part::index;
+use crate::rows::Rows;
+use crate::shape::SetAttribute;
+use es_tables::{Holds, child_field};
 use es_text::{NoMemory, Span};
 use std::alloc::Global;
 use std::marker::Model;
@@ -19,22 +24,22 @@ use std::marker::Model;
 /// reader takes constant time.
 #[derive(Drop)]
 pub struct Tree {
-    rows: Vec<Row>,
+    rows: Rows,
     nodes: u32,
 }
 
 impl Model for Tree {
     ghost use Rattle.std.specs.Prelude.{List};
-    ghost use Rattle.es_tree.specs.declared.row.Row.{Row};
+    ghost use Rattle.es_tree.specs.Rows.{Row};
 
     ghost Value = { List Row };
 
     ghost use Rattle.std.specs.Prelude.{◌≡◌, length};
     ghost use Rattle.es_tree.specs.Rows.{IsNumbered};
 
-    ghost view = { λ tree. tree.rows.items };
+    ghost view = { λ tree. tree.rows };
 
-    ghost invariant = { λ tree. (tree.nodes ≡ length tree.rows.items) × IsNumbered tree.rows.items };
+    ghost invariant = { λ tree. (tree.nodes ≡ length tree.rows) × IsNumbered tree.rows };
 }
 
 impl Tree {
@@ -45,9 +50,9 @@ impl Tree {
         ensures rows { IfOk result (λ tree. tree ≡ rows_of root) }
         ensures spans { (test : Span → Bool) → spans_pass test root ≡ true → IfOk result (λ tree. list_all (λ row. test row.span) tree ≡ true) }
     {
-        let mut rows = Vec::new(alloc);
+        let mut rows = Rows::new(alloc);
         number(alloc, root.into_shape(), None, &mut rows)?;
-        let nodes = next_number(&rows)?;
+        let nodes = index(rows.len())?;
         Ok(Tree { rows, nodes })
     }
 
@@ -65,7 +70,7 @@ impl Tree {
         requires { node < length self.now }
         ensures { kind_of self.now node ≡ Some result }
     {
-        self.rows[node as usize].kind
+        self.rows.kind(node)
     }
 
     /// The bytes of the text that the node covers.
@@ -73,7 +78,7 @@ impl Tree {
         requires { node < length self.now }
         ensures { span_of self.now node ≡ Some result }
     {
-        self.rows[node as usize].span
+        self.rows.span(node)
     }
 
     /// The number of the node's parent, or `None` for the root.
@@ -83,10 +88,10 @@ impl Tree {
         ensures root { IsNone result ↔ (node ≡ 0) }
         ensures before { IfSome result (λ parent. parent < node) }
     {
-        self.rows[node as usize].parent
+        self.rows.parent(node)
     }
 
-    /// The number of the node's child at this place, from 0, in the order of the walk, in which holes
+    /// The number of the node's child at this index, from 0, in the order of the walk, in which holes
     /// are left out; `None` past the last.
     pub fn child(&self, node: u32, index: u32) -> Option<u32>
         requires { node < length self.now }
@@ -94,7 +99,50 @@ impl Tree {
         ensures after { IfSome result (λ child. node < child) }
         ensures within { IfSome result (λ child. child < length self.now) }
     {
-        let row = &self.rows[node as usize];
-        row.children.as_slice().get(index as usize).copied()
+        self.rows.children(node).get(index as usize).copied()
+    }
+
+    /// The number of the child at this index, from 0, of the field with this code, holes counted; `None`
+    /// where a hole stands there, past the last child, and where the node has no such child field.
+    pub fn field(&self, node: u32, field: u16, index: u32) -> Option<u32>
+        requires { node < length self.now }
+        ensures { field_child_of self.now node field index ≡ Some result }
+    {
+        *self.rows.places(node, field).get(index as usize)?
+    }
+
+    /// What the node says of the field with this code: the value of an attribute, the length of a list
+    /// field, else `Absent`.
+    pub fn attribute(&self, node: u32, field: u16) -> Attribute<'_>
+        requires { node < length self.now }
+        ensures value { value_of self.now node field ≡ Some (value_in result) }
+        ensures length { length_of self.now node field ≡ Some (length_in result) }
+    {
+        match child_field(self.rows.kind(node), field) {
+            Some(Holds::Many) => Attribute::Length(self.rows.count_places(node, field)),
+            Some(Holds::One | Holds::Optional) => Attribute::Absent,
+            None => attribute_among(self.rows.attributes(node), field),
+        }
+    }
+
+    /// An equal tree in memory of its own.
+    pub fn copy(&self, alloc: Global) -> Result<Tree, NoMemory>
+        ensures { IfOk result (λ copy. copy ≡ self.now) }
+    {
+        Ok(Tree {
+            rows: self.rows.copy(alloc)?,
+            nodes: self.nodes,
+        })
+    }
+}
+
+/// The value of the attribute, or `Absent` where none was set.
+fn attribute_among(attributes: &[SetAttribute], field: u16) -> Attribute<'_>
+    ensures value { value_in result ≡ value_among attributes.now field }
+    ensures length { length_in result ≡ None }
+{
+    match attributes.iter().find(|given| given.field == field) {
+        Some(given) => given.value.as_attribute(),
+        None => Attribute::Absent,
     }
 }

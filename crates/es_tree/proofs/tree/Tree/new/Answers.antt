@@ -6,12 +6,10 @@ use Rattle.es_tree.proofs.tree.Tree.new.Goals as goal
 
 pub invariant_of-result : goal.invariant_of-result
 invariant_of-result c =
-    let rows : c.number.new.rows.items ≡ rows_of c.args.root =
-    rw (c.in_ok-number.ensures, c.into_shape.ensures, c.new-rows.ensures.items) refl in
-    (c.in_ok-nodes.ensures.ok ∙ ap length c.deref.ensures.value, rw rows (is_numbered c.args.root))
+    let rows : c.number.new.rows ≡ rows_of c.args.root = rw (c.in_ok-number.ensures, c.into_shape.ensures, c.new-rows.ensures) refl in
+    (c.in_ok-nodes.ensures.ok ∙ c.len.ensures, rw rows (is_numbered c.args.root))
 
 pub returns-clause-spans : goal.returns-clause-spans
 returns-clause-spans c = λ test h.
-    let rows : c.number.new.rows.items ≡ rows_of c.args.root =
-    rw (c.in_ok-number.ensures, c.into_shape.ensures, c.new-rows.ensures.items) refl in
+    let rows : c.number.new.rows ≡ rows_of c.args.root = rw (c.in_ok-number.ensures, c.into_shape.ensures, c.new-rows.ensures) refl in
     rw rows (list_all-rows_of test c.args.root h)
