@@ -38,9 +38,11 @@ entries-grow old new entries grows = All-weaker (IsEntry old) (IsEntry new) (λ 
 
 row_in-grows : (old new : Arrays) (entry : Entry) → Grows old new → IsEntry old entry → row_in new entry ≡ row_in old entry
 row_in-grows old new entry grows is =
-    rw (kept_part old.fields new.fields grows.fields.0 entry.fields grows.fields.1 is.fields,
+    rw (
+      kept_part old.fields new.fields grows.fields.0 entry.fields grows.fields.1 is.fields,
       kept_part old.children new.children grows.children.0 entry.children grows.children.1 is.children,
-      kept_part old.attributes new.attributes grows.attributes.0 entry.attributes grows.attributes.1 is.attributes) refl
+      kept_part old.attributes new.attributes grows.attributes.0 entry.attributes grows.attributes.1 is.attributes,
+    ) refl
 
 pub rows-grow : (old new : Arrays) (entries : List Entry) → Grows old new → All (IsEntry old) entries → map (row_in new) entries ≡ map (row_in old) entries
 rows-grow old new [] grows are = refl

@@ -1,5 +1,5 @@
 -- The height of a tree to which a child is added.
-use Rattle.std.proofs.Common.{◌≡◌, ℕ, zero, suc, ◌+◌, ◌<◌, max, List, [], ◌∷◌, ◌++◌, length, replicate, arith, refl}
+use Rattle.std.proofs.Common.{◌≡◌, ℕ, zero, suc, ◌+◌, ◌<◌, max, List, [], ◌∷◌, ◌++◌, length, replicate, arith, refl, subst, sym}
 use Rattle.std.specs.Prelude.{Option, Some, None, IsSome, slice_get}
 use Rattle.std.proofs.lemmas.List.{length-replicate}
 use Rattle.es_text.specs.declared.span.Span.{Span}
@@ -80,6 +80,11 @@ pub lists-kept : (shape : Shape) (lists : List (List (Option Shape))) → length
     → length (out-Shape (roll-Shape (record (out-Shape shape) { fields = lists }))).fields
     ≡ length (child_fields (out-Shape (roll-Shape (record (out-Shape shape) { fields = lists }))).kind)
 lists-kept shape lists same = rw (out-roll-Shape (record (out-Shape shape) { fields = lists })) same
+
+-- what holds of the node with the child holds of the one that is made
+pub added : (P : Shape → Type 0) (shape : Shape) (field : ℕ) (child : Option Shape) (lists : List (List (Option Shape))) →
+    lists ≡ pushed_at (out-Shape shape).fields field child → P (with_child shape field child) → P (roll-Shape (record (out-Shape shape) { fields = lists }))
+added P shape field child lists is holds = subst (λ (fields : List (List (Option Shape))). P (roll-Shape (record (out-Shape shape) { fields = fields }))) (sym is) holds
 
 -- a field that a kind has stands in the list of its child fields
 in_list : {A : Type 0} (list : List A) (at : ℕ) → IsSome (slice_get list at) → at < length list

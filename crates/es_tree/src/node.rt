@@ -96,14 +96,9 @@ impl Node {
         ensures spans { (test : Span → Bool) → OnOk result (spans_pass test self.new ≡ spans_pass test self.old && child_passes test child) }
         ensures err { OnErr result (self.new ≡ self.old) }
     {
-        let (shape, levels) = match child {
-            None => (None, 0),
-            Some(Node { shape, levels }) => (Some(shape), levels),
-        };
+        let (shape, levels) = with_levels(child);
         push_at(&mut self.shape.fields, field as usize, shape)?;
-        if self.levels <= levels {
-            self.levels = levels + 1;
-        }
+        self.levels = self.levels.max(levels + 1);
         Ok(())
     }
 
@@ -125,6 +120,17 @@ impl Node {
         let done = give(&mut all, SetAttribute { field, value });
         *attributes = Items::from_vec(all);
         done
+    }
+}
+
+/// The child as plain data, with its height, or 0 for a hole.
+fn with_levels(child: Option<Node>) -> (Option<Shape>, u32)
+    ensures shape { result.0 ≡ child }
+    ensures levels { result.1 ≡ height_of child }
+{
+    match child {
+        None => (None, 0),
+        Some(Node { shape, levels }) => (Some(shape), levels),
     }
 }
 

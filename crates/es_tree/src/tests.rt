@@ -3,7 +3,7 @@ ghost use Rattle.es_tree.specs.declared.shape.Shape.{out-Shape};
 ghost use Rattle.es_tree.specs.Shapes.{height};
 
 use crate::kind::{self, PROGRAM};
-use crate::{Node, Tree};
+use crate::{Attribute, Node, Tree};
 use es_tables::node_kinds;
 use es_text::{NoMemory, Span};
 use std::alloc::Global;
@@ -149,6 +149,126 @@ fn the_highest_node(rt: HostRuntime) -> Result<(), Fail> {
     let mut block = Node::new(rt.alloc(), kind::BLOCK_STATEMENT, Span { start: 0, end: 1 })?;
     block.add(0, Some(chain(rt.alloc(), 999)?))?;
     assert_eq!(rt; block.height(), 1001);
+    Ok(())
+}
+
+/// A name at this span.
+#[tactic(auto, unfolding(es_tables::specs::Nodes::holds_of, es_tables::specs::Nodes::field_name))]
+fn identifier(alloc: Global, start: u32, end: u32, name: &str) -> Result<Node, NoMemory>
+    ensures { IfOk result (λ node. height node ≡ 1) }
+{
+    let mut node = Node::new(alloc, kind::IDENTIFIER, Span { start, end })?;
+    node.set(alloc, 0, Attribute::Words("earlier"))?;
+    node.set(alloc, 0, Attribute::Words(name))?;
+    Ok(node)
+}
+
+/// `[, b]` at the offset 5.
+#[tactic(auto, unfolding(es_tables::specs::Nodes::holds_of))]
+fn list_with_a_hole(alloc: Global) -> Result<Node, NoMemory>
+    ensures { IfOk result (λ node. height node ≡ 2) }
+{
+    let mut list = Node::new(alloc, kind::ARRAY_EXPRESSION, Span { start: 5, end: 10 })?;
+    list.add(0, None)?;
+    list.add(0, Some(identifier(alloc, 8, 9, "b")?))?;
+    Ok(list)
+}
+
+/// `f(a, [, b])`
+#[tactic(auto, unfolding(es_tables::specs::Nodes::holds_of, es_tables::specs::Nodes::field_name))]
+fn call(alloc: Global) -> Result<Node, NoMemory>
+    ensures { IfOk result (λ node. height node ≡ 3) }
+{
+    let mut call = Node::new(alloc, kind::CALL_EXPRESSION, Span { start: 0, end: 11 })?;
+    call.add(0, Some(identifier(alloc, 0, 1, "f")?))?;
+    call.add(1, Some(identifier(alloc, 2, 3, "a")?))?;
+    call.add(1, Some(list_with_a_hole(alloc)?))?;
+    call.set(alloc, 2, Attribute::Flag(false))?;
+    Ok(call)
+}
+
+/// `f(a, [, b]);`
+#[tactic(auto, unfolding(es_tables::specs::Nodes::holds_of, es_tables::specs::Nodes::field_name))]
+fn script(alloc: Global) -> Result<Node, NoMemory>
+    ensures kind { IfOk result (λ root. (out-Shape root).kind ≡ PROGRAM) }
+    ensures height { IfOk result (λ root. height root ≡ 5) }
+{
+    let span = Span { start: 0, end: 12 };
+    let mut statement = Node::new(alloc, kind::EXPRESSION_STATEMENT, span)?;
+    statement.add(0, Some(call(alloc)?))?;
+    let mut root = Node::new(alloc, kind::PROGRAM, span)?;
+    root.add(0, Some(statement))?;
+    root.set(alloc, 1, Attribute::Words("script"))?;
+    Ok(root)
+}
+
+// The nodes by their numbers: Program, ExpressionStatement, CallExpression, Identifier f, Identifier a,
+// ArrayExpression, Identifier b.
+#[test]
+fn fields_by_code_and_index(rt: HostRuntime) -> Result<(), Fail> {
+    let tree = Tree::new(rt.alloc(), script(rt.alloc())?)?;
+    let copy = tree.copy(rt.alloc())?;
+    assert_eq!(rt; tree.count(), 7);
+    let cases = [
+        // body
+        (0, 0, 0, Some(1)),
+        (0, 0, 1, None),
+        // an attribute
+        (0, 1, 0, None),
+        // callee, arguments
+        (2, 0, 0, Some(3)),
+        (2, 0, 1, None),
+        (2, 1, 0, Some(4)),
+        (2, 1, 1, Some(5)),
+        (2, 1, 2, None),
+        (2, 2, 0, None),
+        // a hole, an element
+        (5, 0, 0, None),
+        (5, 0, 1, Some(6)),
+        (5, 0, 2, None),
+        // no child fields
+        (6, 0, 0, None),
+        (6, 65535, 4294967295, None),
+    ];
+    for (node, field, index, child) in cases {
+        if node < tree.count() {
+            assert_eq!(rt; tree.field(node, field, index), child);
+            assert_eq!(rt; copy.field(node, field, index), child);
+        }
+    }
+    assert_eq!(rt; tree.child(5, 0), Some(6));
+    assert_eq!(rt; tree.child(5, 1), None);
+    Ok(())
+}
+
+#[test]
+fn attributes_by_code(rt: HostRuntime) -> Result<(), Fail> {
+    let tree = Tree::new(rt.alloc(), script(rt.alloc())?)?;
+    let copy = tree.copy(rt.alloc())?;
+    let cases = [
+        // the length of body, sourceType
+        (0, 0, Attribute::Length(1)),
+        (0, 1, Attribute::Words("script")),
+        (0, 2, Attribute::Absent),
+        // expression is no list, directive is missing
+        (1, 0, Attribute::Absent),
+        (1, 1, Attribute::Absent),
+        // callee, the length of arguments, optional
+        (2, 0, Attribute::Absent),
+        (2, 1, Attribute::Length(2)),
+        (2, 2, Attribute::Flag(false)),
+        // elements, of which one is a hole
+        (5, 0, Attribute::Length(2)),
+        // the name that was given last
+        (6, 0, Attribute::Words("b")),
+        (6, 65535, Attribute::Absent),
+    ];
+    for (node, field, attribute) in cases {
+        if node < tree.count() && node < copy.count() {
+            assert_eq!(rt; tree.attribute(node, field), attribute);
+            assert_eq!(rt; copy.attribute(node, field), attribute);
+        }
+    }
     Ok(())
 }
 
