@@ -1,5 +1,5 @@
-pub mod Entries
-pub mod Fits
-pub mod Members
-pub mod Paths
-pub mod Reporting
+pub mod AncestorLemmas
+pub mod KitsLemmas
+pub mod LawfulLemmas
+pub mod ReportsLemmas
+pub mod SpansLemmas

@@ -2,7 +2,7 @@ ghost use Rattle.std.specs.Prelude.{◌≡◌, ◌+◌, ◌-◌, ◌^◌, ◌<�
 ghost use Rattle.std.specs.Str.{chars};
 ghost use Rattle.es_host.specs.Events.{pair};
 ghost use Rattle.es_host.specs.Reports.{kit_says};
-ghost use Rattle.es_host.specs.Spans.{reports_fit, spans_fit};
+ghost use Rattle.es_host.specs.Spans.{fixes_fit, reports_fit, spans_fit};
 
 use crate::ctx::Ctx;
 use crate::rule::Rule;
@@ -70,6 +70,7 @@ pub fn listen<R: Rule>(
     requires spans { IsTrue (spans_fit (pair source.now tree.now)) }
     ensures reports { IfOk result (λ reports. reports.items ≡ kit_says R.id R.says kit.old (pair source.now tree.now)) }
     ensures inside { IfOk result (λ reports. IsTrue (reports_fit (pair source.now tree.now) reports.items)) }
+    ensures fixes { IfOk result (λ reports. IsTrue (fixes_fit (pair source.now tree.now) reports.items)) }
     ensures same_count { length kit.new.rules ≡ length kit.old.rules }
     ensures same_ids { map R.id kit.new.rules ≡ map R.id kit.old.rules }
     ensures same_interests { map R.interest kit.new.rules ≡ map R.interest kit.old.rules }

@@ -7,7 +7,7 @@ ghost use Rattle.es_host.specs.Events.{File, file_of, pair};
 ghost use Rattle.es_host.specs.Lawful.{ancestors_of, entries, path_before};
 ghost use Rattle.es_host.specs.Reports.{report_of, reports_of};
 ghost use Rattle.es_host.specs.Kits.{SameRules};
-ghost use Rattle.es_host.specs.Spans.{reports_fit, spans_fit};
+ghost use Rattle.es_host.specs.Spans.{fixes_fit, reports_fit, spans_fit};
 
 use crate::ctx::Ctx;
 use crate::rule::Rule;
@@ -136,6 +136,7 @@ pub fn report_all<R: Rule>(
     ensures same { SameRules R.id R.interest R.says rules.new rules.old }
     ensures reports { IfOk result (λ reports. reports.items ≡ reports_of R.id (λ rule. R.says rule (file_of ctx.now)) rules.old) }
     ensures inside { IfOk result (λ reports. IsTrue (reports_fit (file_of ctx.now) reports.items)) }
+    ensures fixes { IfOk result (λ reports. IsTrue (fixes_fit (file_of ctx.now) reports.items)) }
 {
     let mut reports = Vec::new(alloc);
     for i in 0..rules.len() {

@@ -17,7 +17,7 @@ use Rattle.es_tree.specs.declared.kind.TheConstants.{DEBUGGER_STATEMENT}
 use Rattle.es_tree.specs.Rows.{Row}
 use Rattle.es_host.specs.Events.{Event, entered_span, pair}
 use Rattle.es_host.specs.Lawful.{entered, entries, hears, is_one_of}
-use Rattle.es_host.specs.Spans.{findings_fit, is_part, spans_fit}
+use Rattle.es_host.specs.Spans.{finding_fits, findings_fit, is_part, spans_fit}
 use Rattle.es_rules_plain.specs.Debugger.{debugger_findings, statement_found}
 
 -- a text of ASCII has its bytes as characters
@@ -109,6 +109,6 @@ pub debuggers-fit : (text : Text) (rows : List Row) → spans_fit (pair text row
     → findings_fit (pair text rows) (debugger_findings (pair text rows)) ≡ true
 debuggers-fit text rows fit =
     let fits : Row → Bool = λ row. is_part (text_bytes text) row.span in
-    list_all-map (λ finding. is_part (text_bytes text) finding.span) (λ row. statement_found row.span) (filter is_debugger rows)
+    list_all-map (finding_fits (text_bytes text)) (λ row. statement_found row.span) (filter is_debugger rows)
     ∙ list_all-from_AllPass fits (filter is_debugger rows)
     (All-filter is_debugger (λ row. fits row ≡ true) rows (AllPass-from_list_all fits rows fit))

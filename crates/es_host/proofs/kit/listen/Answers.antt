@@ -1,7 +1,7 @@
 use Rattle.std.proofs.Common.{◌≡◌, ◌∙◌, ap, map, subst}
 use Rattle.std.specs.Prelude.{IfOk}
 use Rattle.es_host.specs.Events.{pair}
-use Rattle.es_host.proofs.Reporting.{reports-alike}
+use Rattle.es_host.proofs.ReportsLemmas.{reports-alike}
 use Rattle.es_host.proofs.kit.listen.Goals as goal
 
 pub returns-clause-reports : goal.returns-clause-reports

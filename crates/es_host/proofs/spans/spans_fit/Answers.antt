@@ -1,7 +1,7 @@
 use Rattle.std.proofs.Common.{◌≡◌, ◌∙◌, true, false, ap, sym}
 use Rattle.es_text.specs.Texts.{text_bytes}
 use Rattle.es_host.specs.Spans.{is_part}
-use Rattle.es_host.proofs.Fits.{fits-more, fits-not}
+use Rattle.es_host.proofs.SpansLemmas.{fits-more, fits-not}
 use Rattle.es_host.proofs.spans.spans_fit.Goals as goal
 
 pub returns-then-not-is_part : goal.returns-then-not-is_part

@@ -1,5 +1,5 @@
 use Rattle.std.proofs.Common.{rules, arith, []}
-use Rattle.es_host.proofs.Members.{Before-set, SameRules-set}
+use Rattle.es_host.proofs.KitsLemmas.{Before-set, SameRules-set}
 use Rattle.es_host.proofs.walk.begin_all.Goals as goal
 
 pub returns-in_err-begin-clause-same : goal.returns-in_err-begin-clause-same

@@ -1,5 +1,5 @@
 use Rattle.std.proofs.Common.{[]}
-use Rattle.es_host.proofs.Members.{Before}
+use Rattle.es_host.proofs.KitsLemmas.{Before}
 use Rattle.es_host.specs.Events.{File}
 use Rattle.es_host.specs.Kits.{SameRules}
 use Rattle.es_host.proofs.walk.begin_all.Given as goal

@@ -1,6 +1,6 @@
 use Rattle.std.proofs.Common.{◌≡◌, ◌∙◌, ◌-◌, sym, ap, take, length}
 use Rattle.std.specs.Prelude.{slice_get}
-use Rattle.es_host.proofs.Paths.{Above-step, Above-end, same_option, other_option}
+use Rattle.es_host.proofs.AncestorLemmas.{Above-step, Above-end, same_option, other_option}
 use Rattle.es_host.proofs.walk.climb.Goals as goal
 
 pub loop-parent-preserved : goal.loop-parent-preserved

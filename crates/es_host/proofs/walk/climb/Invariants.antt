@@ -1,4 +1,4 @@
-use Rattle.es_host.proofs.Paths.{Above}
+use Rattle.es_host.proofs.AncestorLemmas.{Above}
 use Rattle.es_host.proofs.walk.climb.Given as goal
 
 abbrev pub invariant-loop-parent : goal.invariant-loop-parent

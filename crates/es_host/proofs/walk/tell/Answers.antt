@@ -2,7 +2,7 @@ use Rattle.std.proofs.Common.{◌≡◌, ◌∙◌, ◌+◌, ◌++◌, ◌∷◌
 use Rattle.std.specs.List.{list_any}
 use Rattle.es_host.specs.Events.{Enter, file_of}
 use Rattle.es_host.specs.Lawful.{entries, hears, is_one_of}
-use Rattle.es_host.proofs.Entries.{entries-heard, entries-passed}
+use Rattle.es_host.proofs.LawfulLemmas.{entries-heard, entries-passed}
 use Rattle.es_host.proofs.walk.tell.Goals as goal
 
 pub returns-in_ok-on_node-clause-heard : goal.returns-in_ok-on_node-clause-heard

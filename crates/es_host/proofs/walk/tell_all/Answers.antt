@@ -1,7 +1,7 @@
 use Rattle.std.proofs.Common.{rules, arith, ◌+◌, subst, sym}
 use Rattle.es_host.specs.Events.{file_of}
 use Rattle.es_host.specs.Lawful.{entries}
-use Rattle.es_host.proofs.Members.{Before-set, From-set, SameRules-set}
+use Rattle.es_host.proofs.KitsLemmas.{Before-set, From-set, SameRules-set}
 use Rattle.es_host.proofs.walk.tell_all.Goals as goal
 
 pub returns-in_err-tell-clause-same : goal.returns-in_err-tell-clause-same

@@ -1,6 +1,6 @@
 use Rattle.std.proofs.Common.{◌+◌}
 use Rattle.std.specs.List.{All}
-use Rattle.es_host.proofs.Members.{Before, From}
+use Rattle.es_host.proofs.KitsLemmas.{Before, From}
 use Rattle.es_host.specs.Events.{file_of}
 use Rattle.es_host.specs.Kits.{SameRules}
 use Rattle.es_host.specs.Lawful.{entries}

@@ -1,8 +1,8 @@
 use Rattle.std.proofs.Common.{arith, ◌≡◌, ◌∙◌, ◌+◌, ◌++◌, ◌∷◌, ◌<◌, [], length, suc, ap, subst, sym}
 use Rattle.std.specs.List.{All}
 use Rattle.es_host.specs.Lawful.{ancestors_of, path_before}
-use Rattle.es_host.proofs.Members.{SameRules-through}
-use Rattle.es_host.proofs.Paths.{ancestors-below}
+use Rattle.es_host.proofs.KitsLemmas.{SameRules-through}
+use Rattle.es_host.proofs.AncestorLemmas.{ancestors-below}
 use Rattle.es_host.proofs.walk.walk.Goals as goal
 
 pub tell_all-requires-clause-below : goal.tell_all-requires-clause-below
