@@ -68,7 +68,8 @@ pub fn listen<R: Rule>(
     kit: &mut Kit<R>,
 ) -> Result<Vec<Report>, NoMemory>
     requires spans { IsTrue (spans_fit (pair source.now tree.now)) }
-    ensures reports { IfOk result (λ reports. reports.items ≡ kit_says R.id R.says kit.old (pair source.now tree.now)) }
+    ensures reports { IfOk result
+        (λ reports. reports.items ≡ kit_says R.id R.says kit.old (pair source.now tree.now)) }
     ensures inside { IfOk result (λ reports. IsTrue (reports_fit (pair source.now tree.now) reports.items)) }
     ensures fixes { IfOk result (λ reports. IsTrue (fixes_fit (pair source.now tree.now) reports.items)) }
     ensures same_count { length kit.new.rules ≡ length kit.old.rules }

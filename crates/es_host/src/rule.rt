@@ -49,7 +49,8 @@ pub trait Rule: Drop {
         ensures same_id { id self.new ≡ id self.old }
         ensures same_interest { interest self.new ≡ interest self.old }
         ensures same_says { says self.new ≡ says self.old }
-        ensures more { OnOk result ((events : List Event) → heard self.old (file_of ctx.now) events → heard self.new (file_of ctx.now) (events ++ Enter node ctx.now.ancestors.now ∷ [])) };
+        ensures more { OnOk result ((events : List Event) → heard self.old (file_of ctx.now) events
+            → heard self.new (file_of ctx.now) (events ++ Enter node ctx.now.ancestors.now ∷ [])) };
 
     /// What the rule found, once it heard all that it asked for.
     fn finish(&mut self, alloc: Global, ctx: &Ctx) -> Result<Vec<Finding>, NoMemory>

@@ -49,7 +49,10 @@ fn tell<R: Rule>(alloc: Global, ctx: &Ctx, rule: &mut R, node: u32) -> Result<()
     ensures same_id { R.id rule.new ≡ R.id rule.old }
     ensures same_interest { R.interest rule.new ≡ R.interest rule.old }
     ensures same_says { R.says rule.new ≡ R.says rule.old }
-    ensures heard { OnOk result (R.heard rule.old (file_of ctx.now) (entries ctx.now.tree.now (R.interest rule.old) node) → R.heard rule.new (file_of ctx.now) (entries ctx.now.tree.now (R.interest rule.old) (node + 1))) }
+    ensures heard { OnOk result
+        (R.heard rule.old (file_of ctx.now) (entries ctx.now.tree.now (R.interest rule.old) node)
+        → R.heard rule.new (file_of ctx.now)
+        (entries ctx.now.tree.now (R.interest rule.old) (node + 1))) }
 {
     let kind = ctx.tree.kind(node);
     let asked = rule.interest().contains(&kind);
@@ -66,7 +69,11 @@ fn tell_all<R: Rule>(alloc: Global, ctx: &Ctx, rules: &mut [R], node: u32) -> Re
     requires ancestors { ctx.now.ancestors.now ≡ ancestors_of ctx.now.tree.now node }
     requires below { All (λ ancestor. ancestor < length ctx.now.tree.now) ctx.now.ancestors.now }
     ensures same { SameRules R.id R.interest R.says rules.new rules.old }
-    ensures heard { OnOk result (All (λ rule. R.heard rule (file_of ctx.now) (entries ctx.now.tree.now (R.interest rule) node)) rules.old → All (λ rule. R.heard rule (file_of ctx.now) (entries ctx.now.tree.now (R.interest rule) (node + 1))) rules.new) }
+    ensures heard { OnOk result
+        (All (λ rule. R.heard rule (file_of ctx.now)
+        (entries ctx.now.tree.now (R.interest rule) node)) rules.old
+        → All (λ rule. R.heard rule (file_of ctx.now)
+        (entries ctx.now.tree.now (R.interest rule) (node + 1))) rules.new) }
 {
     for i in 0..rules.len() {
         tell(alloc, ctx, &mut rules[i], node)?;
@@ -83,7 +90,10 @@ pub fn walk<R: Rule>(
 ) -> Result<(), NoMemory>
     requires { IsTrue (spans_fit (pair source.now tree.now)) }
     ensures same { SameRules R.id R.interest R.says rules.new rules.old }
-    ensures heard { OnOk result (All (λ rule. R.heard rule (pair source.now tree.now) []) rules.old → All (λ rule. R.heard rule (pair source.now tree.now) (entries tree.now (R.interest rule) (length tree.now))) rules.new) }
+    ensures heard { OnOk result
+        (All (λ rule. R.heard rule (pair source.now tree.now) []) rules.old
+        → All (λ rule. R.heard rule (pair source.now tree.now)
+        (entries tree.now (R.interest rule) (length tree.now))) rules.new) }
 {
     let mut path: Vec<u32> = Vec::new(alloc);
     for node in 0..tree.count() {
@@ -107,7 +117,9 @@ fn add_reports(
     findings: Vec<Finding>,
     reports: &mut Vec<Report>,
 ) -> Result<(), NoMemory>
-    ensures { OnOk result (reports.new.items ≡ reports.old.items ++ map (report_of (chars id.now) place) findings.items) }
+    ensures { OnOk result
+        (reports.new.items
+        ≡ reports.old.items ++ map (report_of (chars id.now) place) findings.items) }
 {
     for finding in findings {
         let Finding { span, text, fix } = finding;
@@ -132,9 +144,11 @@ pub fn report_all<R: Rule>(
 ) -> Result<Vec<Report>, NoMemory>
     requires spans { IsTrue (spans_fit (file_of ctx.now)) }
     requires ancestors { ctx.now.ancestors.now ≡ [] }
-    requires heard { All (λ rule. R.heard rule (file_of ctx.now) (entries ctx.now.tree.now (R.interest rule) (length ctx.now.tree.now))) rules.old }
+    requires heard { All (λ rule. R.heard rule (file_of ctx.now)
+        (entries ctx.now.tree.now (R.interest rule) (length ctx.now.tree.now))) rules.old }
     ensures same { SameRules R.id R.interest R.says rules.new rules.old }
-    ensures reports { IfOk result (λ reports. reports.items ≡ reports_of R.id (λ rule. R.says rule (file_of ctx.now)) rules.old) }
+    ensures reports { IfOk result
+        (λ reports. reports.items ≡ reports_of R.id (λ rule. R.says rule (file_of ctx.now)) rules.old) }
     ensures inside { IfOk result (λ reports. IsTrue (reports_fit (file_of ctx.now) reports.items)) }
     ensures fixes { IfOk result (λ reports. IsTrue (fixes_fit (file_of ctx.now) reports.items)) }
 {

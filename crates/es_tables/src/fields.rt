@@ -1,7 +1,8 @@
 //! The fields of each kind of nodes, and what they hold.
 ghost use Rattle.std.specs.Prelude.{◌≡◌, length, map, position};
 ghost use Rattle.std.specs.Str.{bytes_eq};
-ghost use Rattle.es_tables.specs.Nodes.{child_fields, field_index, fields_of, held_by, kind_fields, node_rows};
+ghost use Rattle.es_tables.specs.Nodes.{child_fields, field_index, fields_of};
+ghost use Rattle.es_tables.specs.Nodes.{held_by, kind_fields, node_rows};
 
 /// What a child field holds.
 #[derive(Clone, Copy, Debug, PartialEq, Eq)]
@@ -21,8 +22,8 @@ struct Field {
     holds: Option<Holds>,
 }
 
-/// An array of lists of fields: for each kind its child fields, then its attributes. The kind before each
-/// row stands for the reader alone.
+/// An array of lists of fields: for each kind its child fields, then its attributes. The kind before
+/// each row stands for the reader alone.
 macro_rules! fields {
     ($($kind:ident [$($holds:ident $child:literal),*] [$($attribute:literal),*])*) => {
         [$(&[
@@ -32,8 +33,8 @@ macro_rules! fields {
     };
 }
 
-/// The fields of each kind, child fields in the order of the walk, then attributes, in the order of the
-/// kinds' codes.
+/// The fields of each kind, child fields in the order of the walk, then attributes, in the order of
+/// the kinds' codes.
 static FIELDS: [&[Field]; 71] = fields![
     Program [Many "body"] ["sourceType"]
     ExpressionStatement [One "expression"] ["directive"]
@@ -108,9 +109,10 @@ static FIELDS: [&[Field]; 71] = fields![
     ExportAllDeclaration [Optional "exported", One "source"] []
 ];
 
-/// The index, from 0, of the name among the fields of the kind with this code, child fields first in
-/// the order of the walk, then attributes: the code of that field. None where no kind has the code, or
-/// the kind has no field of the name. The attribute `length` of a list field has no index of its own.
+/// The index, from 0, of the name among the fields of the kind with this code, child fields first
+/// in the order of the walk, then attributes: the code of that field. `None` where no kind has the
+/// code, or the kind has no field of the name. The attribute `length` of a list field has no index
+/// of its own.
 pub fn field_of(kind: u16, name: &str) -> Option<u16>
     ensures { result ≡ field_index kind name.now }
 {
@@ -118,7 +120,7 @@ pub fn field_of(kind: u16, name: &str) -> Option<u16>
     Some(index as u16)
 }
 
-/// What the child field with this code holds. None where the kind has no such child field.
+/// What the child field with this code holds; `None` where the kind has no such child field.
 pub fn child_field(kind: u16, field: u16) -> Option<Holds>
     ensures { result ≡ held_by kind field }
 {
@@ -147,7 +149,8 @@ fn fields_of(kind: u16) -> &'static [Field]
 
 /// The fields of each kind, in the order of the kinds' codes.
 fn all_fields() -> &'static [&'static [Field]]
-    ensures { map (λ fields. map (λ field. (field.name.now, field.holds)) fields.now) result.now ≡ map fields_of node_rows }
+    ensures { map (λ fields. map (λ field. (field.name.now, field.holds)) fields.now) result.now
+        ≡ map fields_of node_rows }
 {
     &FIELDS
 }

@@ -1,5 +1,5 @@
-//! Constant tables: the reserved words, the punctuators, the kinds of nodes with their fields, and the
-//! look-ups in them.
+//! Constant tables: the reserved words, the punctuators, the kinds of nodes with their fields, and
+//! the look-ups in them.
 #![tactic(auto)]
 
 mod fields;

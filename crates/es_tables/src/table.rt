@@ -32,7 +32,9 @@ impl<const N: usize> Table<N> {
         requires { IsOrdered self.now.rows.now }
         ensures row { IfSome result (λ row. HasRow self.now.rows.now row.now.text.now row.now.code) }
         ensures longest { IfSome result (λ row. IsLongestPrefix self.now.rows.now bytes.now row.now.text.now) }
-        ensures missing { IfNone result ((text : List ℕ) (code : ℕ) → HasRow self.now.rows.now text code → IsPrefix text bytes.now → ⊥) }
+        ensures missing { IfNone result
+            ((text : List ℕ) (code : ℕ) →
+            HasRow self.now.rows.now text code → IsPrefix text bytes.now → ⊥) }
     {
         let end = self
             .rows

@@ -1,5 +1,6 @@
 //! The children of nodes by field, in flat arrays.
-ghost use Rattle.std.specs.Prelude.{◌≡◌, ◌<◌, ◌++◌, [], ◌∷◌, length, option_map, take, Some, slice_get, IfOk, OnOk, OnErr};
+ghost use Rattle.std.specs.Prelude.{◌≡◌, ◌<◌, ◌++◌, [], ◌∷◌, length, option_map, take, Some};
+ghost use Rattle.std.specs.Prelude.{slice_get, IfOk, OnOk, OnErr};
 
 use crate::part::{Part, append, copy_of, index, items_in};
 use es_text::{Items, NoMemory};
@@ -67,8 +68,8 @@ impl ChildLists {
         Ok(())
     }
 
-    /// Puts the lists at the end, among which they are then the part that is answered. After `NoMemory`
-    /// the first of them may stand there.
+    /// Puts the lists at the end, and answers which part of all they are. After `NoMemory` the first of
+    /// them may stand there.
     pub fn append(&mut self, lists: Items<Items<Option<u32>>>) -> Result<Part, NoMemory>
         ensures lists { OnOk result (self.new ≡ self.old ++ lists) }
         ensures start { IfOk result (λ part. part.start ≡ length self.old) }

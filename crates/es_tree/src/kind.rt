@@ -1,9 +1,10 @@
 //! The kinds of nodes. A kind's code is its index, from 0, among the kinds in the order in which
 //! `es_tables` lists them; what ties each constant to its kind is a test.
 //!
-//! Above each constant stand the fields: first those for children in the order of the walk, where `*` is
-//! a list and `?` may be missing, and behind the bar the attributes. In brackets is the part of the ESTree
-//! specification that has the kind. A list field has besides an attribute `length`, its holes counted.
+//! Above each constant stand the fields: first those for children in the order of the walk, where `*`
+//! is a list and `?` may be missing, and behind the bar the attributes. In brackets is the part of
+//! the ESTree specification that has the kind. A list field has besides an attribute `length`, its
+//! holes counted.
 
 /// `body* | sourceType` (ES5, Programs)
 pub const PROGRAM: u16 = 0;

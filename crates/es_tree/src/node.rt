@@ -1,10 +1,12 @@
-ghost use Rattle.std.specs.Prelude.{Bool, ◌&&◌, ◌==◌, ℕ, ◌≡◌, ◌+◌, ◌≤◌, max, [], length, position, replicate, IsSome, IfSome, IfOk, OnOk, OnErr};
+ghost use Rattle.std.specs.Prelude.{Bool, ◌&&◌, ◌==◌, ℕ, ◌≡◌, ◌+◌, ◌≤◌, max, [], length, position};
+ghost use Rattle.std.specs.Prelude.{replicate, IsSome, IfSome, IfOk, OnOk, OnErr};
 ghost use Rattle.es_tree.specs.declared.shape.Shape.{out-Shape};
 ghost use Rattle.es_tables.specs.Nodes.{IsKind, HasAttribute, HasField, child_fields};
 ghost use Rattle.es_tree.specs.Attributes.{attributes_with, value_in};
 ghost use Rattle.es_tree.specs.Spans.{child_passes, spans_pass};
 ghost use Rattle.es_text.specs.declared.span.Span.{Span};
-ghost use Rattle.es_tree.specs.Shapes.{bare, height, height_of, with_attribute, with_child, HasNone, HasPlace};
+ghost use Rattle.es_tree.specs.Shapes.{bare, height, height_of, with_attribute, with_child};
+ghost use Rattle.es_tree.specs.Shapes.{HasNone, HasPlace};
 
 use crate::attribute::Attribute;
 use crate::shape::{AttributeValue, SetAttribute, Shape};
@@ -84,8 +86,9 @@ impl Node {
         shape
     }
 
-    /// Puts the child, or for `None` a hole, at the end of the field. The field is its position, from
-    /// 0, among the child fields of the kind. After `NoMemory` the child is given up.
+    /// Puts the child, or for `None` a hole, at the end of the field. The field is its index, from 0,
+    /// among the child fields of the kind. After `NoMemory` the child is given up, and the node is as
+    /// before.
     pub fn add(&mut self, field: u16, child: Option<Node>) -> Result<(), NoMemory>
         requires field { HasField (out-Shape self.old).kind field }
         requires place { HasPlace self.old field child }
@@ -93,7 +96,8 @@ impl Node {
         ensures ok { OnOk result (self.new ≡ with_child self.old field child) }
         ensures kind { OnOk result ((out-Shape self.new).kind ≡ (out-Shape self.old).kind) }
         ensures height { OnOk result (height self.new ≡ max (height self.old) (height_of child + 1)) }
-        ensures spans { (test : Span → Bool) → OnOk result (spans_pass test self.new ≡ spans_pass test self.old && child_passes test child) }
+        ensures spans { (test : Span → Bool) → OnOk result
+            (spans_pass test self.new ≡ spans_pass test self.old && child_passes test child) }
         ensures err { OnErr result (self.new ≡ self.old) }
     {
         let (shape, levels) = with_levels(child);
@@ -102,13 +106,14 @@ impl Node {
         Ok(())
     }
 
-    /// Gives the attribute this value, in place of any earlier one. The field is the attribute's code: its
-    /// index, from 0, among the fields of the kind, child fields first. After `NoMemory` the node is as
-    /// before.
+    /// Gives the attribute this value, in place of any earlier one. The field is the attribute's code:
+    /// its index, from 0, among the fields of the kind, child fields first. After `NoMemory` the node
+    /// is as before.
     pub fn set(&mut self, alloc: Global, field: u16, value: Attribute) -> Result<(), NoMemory>
         requires attribute { HasAttribute (out-Shape self.old).kind field }
         requires value { IsSome (value_in value) }
-        ensures ok { IfSome (value_in value.entry) (λ given. OnOk result (self.new ≡ with_attribute self.old field given)) }
+        ensures ok { IfSome (value_in value.entry)
+            (λ given. OnOk result (self.new ≡ with_attribute self.old field given)) }
         ensures kind { (out-Shape self.new).kind ≡ (out-Shape self.old).kind }
         ensures height { height self.new ≡ height self.old }
         ensures spans { (test : Span → Bool) → spans_pass test self.new ≡ spans_pass test self.old }
@@ -136,7 +141,8 @@ fn with_levels(child: Option<Node>) -> (Option<Shape>, u32)
 
 /// Puts the attribute in place of the one of its field, or at the end where none has the field.
 fn give(attributes: &mut Vec<SetAttribute>, new: SetAttribute) -> Result<(), NoMemory>
-    ensures ok { OnOk result (attributes.new.items ≡ attributes_with attributes.old.items new.field new.value) }
+    ensures ok { OnOk result
+        (attributes.new.items ≡ attributes_with attributes.old.items new.field new.value) }
     ensures err { OnErr result (attributes.new.items ≡ attributes.old.items) }
 {
     match index_of(attributes, new.field) {

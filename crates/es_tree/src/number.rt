@@ -45,7 +45,8 @@ fn number_children(
     parent: u32,
     rows: &mut Rows,
 ) -> Result<Numbers, NoMemory>
-    ensures fields { IfOk result (λ numbers. numbers.fields ≡ numbers_of_all numbered parent (length rows.old) fields) }
+    ensures fields { IfOk result
+        (λ numbers. numbers.fields ≡ numbers_of_all numbered parent (length rows.old) fields) }
     ensures children { IfOk result (λ numbers. numbers.children ≡ all_filled numbers.fields) }
     ensures rows { OnOk result (rows.new ≡ rows.old ++ rows_of_all numbered parent (length rows.old) fields) }
 {

@@ -23,8 +23,8 @@ pub fn items_in<T>(items: &[T], part: Part) -> &[T]
     &items[part.start as usize..part.end as usize]
 }
 
-/// Puts the items at the end of the array, in which they are then the part that is answered. One of 2^32
-/// items or more has no parts past them.
+/// Puts the items at the end of the array, and answers which part of it they are. An array of 2^32 items
+/// has no parts past them, and `NoMemory` is the answer.
 pub fn append<T: Drop>(items: &mut Vec<T>, mut more: Vec<T>) -> Result<Part, NoMemory>
     ensures items { OnOk result (items.new.items ≡ items.old.items ++ more.items) }
     ensures start { IfOk result (λ part. part.start ≡ length items.old.items) }

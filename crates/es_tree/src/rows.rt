@@ -1,7 +1,7 @@
 //! The rows of a tree's nodes in flat arrays.
-ghost use Rattle.std.specs.Prelude.{◌≡◌, ◌<◌, ◌++◌, [], ◌∷◌, length, option_map, Some, slice_get, IfOk, OnOk};
-ghost use Rattle.es_tree.specs.Numbering.{all_filled};
-ghost use Rattle.es_tree.specs.Rows.{kind_of, span_of, parent_of, children_of, places_of, attributes_of, childless, with_children};
+ghost use Rattle.std.specs.Prelude.{◌≡◌, ◌<◌, ◌++◌, [], ◌∷◌, length, option_map, Some, IfOk, OnOk};
+ghost use Rattle.es_tree.specs.Rows.{kind_of, span_of, parent_of, children_of, places_of};
+ghost use Rattle.es_tree.specs.Rows.{attributes_of, childless, with_children};
 
 use crate::child_lists::ChildLists;
 use crate::part::{NOTHING, Part, append, copy_of, items_in};

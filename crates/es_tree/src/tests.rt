@@ -9,28 +9,6 @@ use es_text::{NoMemory, Span};
 use std::alloc::Global;
 use std::test::Fail;
 
-/// `{ debugger; } foo;`
-#[tactic(auto, unfolding(es_tables::specs::Nodes::holds_of))]
-fn program(alloc: Global) -> Result<Node, NoMemory>
-    ensures kind { IfOk result (λ root. (out-Shape root).kind ≡ PROGRAM) }
-    ensures height { IfOk result (λ root. height root ≡ 3) }
-{
-    let mut block = Node::new(alloc, kind::BLOCK_STATEMENT, Span { start: 0, end: 13 })?;
-    let debugger = Node::new(alloc, kind::DEBUGGER_STATEMENT, Span { start: 2, end: 11 })?;
-    block.add(0, Some(debugger))?;
-    let mut statement = Node::new(
-        alloc,
-        kind::EXPRESSION_STATEMENT,
-        Span { start: 14, end: 18 },
-    )?;
-    let identifier = Node::new(alloc, kind::IDENTIFIER, Span { start: 14, end: 17 })?;
-    statement.add(0, Some(identifier))?;
-    let mut root = Node::new(alloc, kind::PROGRAM, Span { start: 0, end: 18 })?;
-    root.add(0, Some(block))?;
-    root.add(0, Some(statement))?;
-    Ok(root)
-}
-
 /// This many blocks and then an empty statement, each the only child of the one before.
 #[tactic(auto, unfolding(es_tables::specs::Nodes::holds_of))]
 fn chain(alloc: Global, blocks: u32) -> Result<Node, NoMemory>
@@ -45,111 +23,6 @@ fn chain(alloc: Global, blocks: u32) -> Result<Node, NoMemory>
         node = block;
     }
     Ok(node)
-}
-
-#[test]
-fn a_small_tree(rt: HostRuntime) -> Result<(), Fail> {
-    let root = program(rt.alloc())?;
-    assert_eq!(rt; root.height(), 3);
-    let tree = Tree::new(rt.alloc(), root)?;
-    assert_eq!(rt; tree.count(), 5);
-
-    let nodes = [
-        (
-            kind::PROGRAM,
-            Span { start: 0, end: 18 },
-            None,
-            [Some(1), Some(3), None],
-        ),
-        (
-            kind::BLOCK_STATEMENT,
-            Span { start: 0, end: 13 },
-            Some(0),
-            [Some(2), None, None],
-        ),
-        (
-            kind::DEBUGGER_STATEMENT,
-            Span { start: 2, end: 11 },
-            Some(1),
-            [None, None, None],
-        ),
-        (
-            kind::EXPRESSION_STATEMENT,
-            Span { start: 14, end: 18 },
-            Some(0),
-            [Some(4), None, None],
-        ),
-        (
-            kind::IDENTIFIER,
-            Span { start: 14, end: 17 },
-            Some(3),
-            [None, None, None],
-        ),
-    ];
-    let mut number = 0;
-    for (kind, span, parent, children) in nodes {
-        if number < tree.count() {
-            assert_eq!(rt; tree.kind(number), kind);
-            assert_eq!(rt; tree.span(number), span);
-            assert_eq!(rt; tree.parent(number), parent);
-            let found = [
-                tree.child(number, 0),
-                tree.child(number, 1),
-                tree.child(number, 2),
-            ];
-            assert_eq!(rt; found, children);
-            number += 1;
-        }
-    }
-    assert_eq!(rt; number, 5);
-    Ok(())
-}
-
-#[test]
-#[tactic(auto, unfolding(es_tables::specs::Nodes::holds_of))]
-fn holes_have_no_number(rt: HostRuntime) -> Result<(), Fail> {
-    let mut root = Node::new(rt.alloc(), kind::PROGRAM, Span { start: 0, end: 3 })?;
-    root.add(0, None)?;
-    assert_eq!(rt; root.height(), 1);
-    root.add(
-        0,
-        Some(Node::new(rt.alloc(), kind::EMPTY_STATEMENT, Span { start: 1, end: 2 })?),
-    )?;
-    root.add(0, None)?;
-    root.add(
-        0,
-        Some(Node::new(rt.alloc(), kind::EMPTY_STATEMENT, Span { start: 2, end: 3 })?),
-    )?;
-    assert_eq!(rt; root.height(), 2);
-    let tree = Tree::new(rt.alloc(), root)?;
-    assert_eq!(rt; tree.count(), 3);
-    assert_eq!(rt; tree.child(0, 0), Some(1));
-    assert_eq!(rt; tree.child(0, 1), Some(2));
-    assert_eq!(rt; tree.child(0, 2), None);
-    assert_eq!(rt; tree.span(2), Span { start: 2, end: 3 });
-    Ok(())
-}
-
-#[test]
-#[tactic(auto, unfolding(es_tables::specs::Nodes::holds_of))]
-fn a_thousand_levels(rt: HostRuntime) -> Result<(), Fail> {
-    let mut root = Node::new(rt.alloc(), kind::PROGRAM, Span { start: 0, end: 1 })?;
-    root.add(0, Some(chain(rt.alloc(), 998)?))?;
-    assert_eq!(rt; root.height(), 1000);
-    let tree = Tree::new(rt.alloc(), root)?;
-    assert_eq!(rt; tree.count(), 1000);
-    assert_eq!(rt; tree.parent(999), Some(998));
-    assert_eq!(rt; tree.kind(999), kind::EMPTY_STATEMENT);
-    Ok(())
-}
-
-#[test]
-#[tactic(auto, unfolding(es_tables::specs::Nodes::holds_of))]
-fn the_highest_node(rt: HostRuntime) -> Result<(), Fail> {
-    let mut block = Node::new(rt.alloc(), kind::BLOCK_STATEMENT, Span { start: 0, end: 1 })?;
-    block.add(0, Some(chain(rt.alloc(), 999)?))?;
-    assert_eq!(rt; block.height(), 1001);
-    Ok(())
 }
 
 /// A name at this span.
@@ -202,68 +75,141 @@ fn script(alloc: Global) -> Result<Node, NoMemory>
     Ok(root)
 }
 
-// The nodes by their numbers: Program, ExpressionStatement, CallExpression, Identifier f, Identifier a,
-// ArrayExpression, Identifier b.
+// Kind, span, parent, and the children without holes: `f(a, [, b]);` by ESTree.
+static NODES: [(u16, Span, Option<u32>, [Option<u32>; 3]); 7] = [
+    (
+        kind::PROGRAM,
+        Span { start: 0, end: 12 },
+        None,
+        [Some(1), None, None],
+    ),
+    (
+        kind::EXPRESSION_STATEMENT,
+        Span { start: 0, end: 12 },
+        Some(0),
+        [Some(2), None, None],
+    ),
+    (
+        kind::CALL_EXPRESSION,
+        Span { start: 0, end: 11 },
+        Some(1),
+        [Some(3), Some(4), Some(5)],
+    ),
+    (
+        kind::IDENTIFIER,
+        Span { start: 0, end: 1 },
+        Some(2),
+        [None, None, None],
+    ),
+    (
+        kind::IDENTIFIER,
+        Span { start: 2, end: 3 },
+        Some(2),
+        [None, None, None],
+    ),
+    (
+        kind::ARRAY_EXPRESSION,
+        Span { start: 5, end: 10 },
+        Some(2),
+        [Some(6), None, None],
+    ),
+    (
+        kind::IDENTIFIER,
+        Span { start: 8, end: 9 },
+        Some(5),
+        [None, None, None],
+    ),
+];
+
 #[test]
-fn fields_by_code_and_index(rt: HostRuntime) -> Result<(), Fail> {
+fn nodes_by_number(rt: HostRuntime) -> Result<(), Fail> {
+    let root = script(rt.alloc())?;
+    assert_eq!(rt; root.height(), 5);
+    let tree = Tree::new(rt.alloc(), root)?;
+    assert_eq!(rt; tree.count(), 7);
+    let mut number = 0;
+    for node in NODES.iter() {
+        let (kind, span, parent, children) = *node;
+        if number < tree.count() {
+            assert_eq!(rt; tree.kind(number), kind);
+            assert_eq!(rt; tree.span(number), span);
+            assert_eq!(rt; tree.parent(number), parent);
+            let found = [
+                tree.child(number, 0),
+                tree.child(number, 1),
+                tree.child(number, 2),
+            ];
+            assert_eq!(rt; found, children);
+            number += 1;
+        }
+    }
+    assert_eq!(rt; number, 7);
+    Ok(())
+}
+
+// Node, the field's code, index, and the child.
+static PLACES: [(u32, u16, u32, Option<u32>); 14] = [
+    // body
+    (0, 0, 0, Some(1)),
+    (0, 0, 1, None),
+    // an attribute
+    (0, 1, 0, None),
+    // callee, arguments
+    (2, 0, 0, Some(3)),
+    (2, 0, 1, None),
+    (2, 1, 0, Some(4)),
+    (2, 1, 1, Some(5)),
+    (2, 1, 2, None),
+    (2, 2, 0, None),
+    // a hole, an element
+    (5, 0, 0, None),
+    (5, 0, 1, Some(6)),
+    (5, 0, 2, None),
+    // no child fields
+    (6, 0, 0, None),
+    (6, 65535, 4294967295, None),
+];
+
+#[test]
+fn children_by_field(rt: HostRuntime) -> Result<(), Fail> {
     let tree = Tree::new(rt.alloc(), script(rt.alloc())?)?;
     let copy = tree.copy(rt.alloc())?;
-    assert_eq!(rt; tree.count(), 7);
-    let cases = [
-        // body
-        (0, 0, 0, Some(1)),
-        (0, 0, 1, None),
-        // an attribute
-        (0, 1, 0, None),
-        // callee, arguments
-        (2, 0, 0, Some(3)),
-        (2, 0, 1, None),
-        (2, 1, 0, Some(4)),
-        (2, 1, 1, Some(5)),
-        (2, 1, 2, None),
-        (2, 2, 0, None),
-        // a hole, an element
-        (5, 0, 0, None),
-        (5, 0, 1, Some(6)),
-        (5, 0, 2, None),
-        // no child fields
-        (6, 0, 0, None),
-        (6, 65535, 4294967295, None),
-    ];
-    for (node, field, index, child) in cases {
-        if node < tree.count() {
+    for place in PLACES.iter() {
+        let (node, field, index, child) = *place;
+        if node < tree.count() && node < copy.count() {
             assert_eq!(rt; tree.field(node, field, index), child);
             assert_eq!(rt; copy.field(node, field, index), child);
         }
     }
-    assert_eq!(rt; tree.child(5, 0), Some(6));
-    assert_eq!(rt; tree.child(5, 1), None);
     Ok(())
 }
 
+// Node, the field's code, and what is said of it.
+static ATTRIBUTES: [(u32, u16, Attribute<'static>); 11] = [
+    // the length of body, sourceType
+    (0, 0, Attribute::Length(1)),
+    (0, 1, Attribute::Words("script")),
+    (0, 2, Attribute::Absent),
+    // expression is no list, directive is missing
+    (1, 0, Attribute::Absent),
+    (1, 1, Attribute::Absent),
+    // callee, the length of arguments, optional
+    (2, 0, Attribute::Absent),
+    (2, 1, Attribute::Length(2)),
+    (2, 2, Attribute::Flag(false)),
+    // elements, of which one is a hole
+    (5, 0, Attribute::Length(2)),
+    // the name that was given last
+    (6, 0, Attribute::Words("b")),
+    (6, 65535, Attribute::Absent),
+];
+
 #[test]
-fn attributes_by_code(rt: HostRuntime) -> Result<(), Fail> {
+fn attributes_by_field(rt: HostRuntime) -> Result<(), Fail> {
     let tree = Tree::new(rt.alloc(), script(rt.alloc())?)?;
     let copy = tree.copy(rt.alloc())?;
-    let cases = [
-        // the length of body, sourceType
-        (0, 0, Attribute::Length(1)),
-        (0, 1, Attribute::Words("script")),
-        (0, 2, Attribute::Absent),
-        // expression is no list, directive is missing
-        (1, 0, Attribute::Absent),
-        (1, 1, Attribute::Absent),
-        // callee, the length of arguments, optional
-        (2, 0, Attribute::Absent),
-        (2, 1, Attribute::Length(2)),
-        (2, 2, Attribute::Flag(false)),
-        // elements, of which one is a hole
-        (5, 0, Attribute::Length(2)),
-        // the name that was given last
-        (6, 0, Attribute::Words("b")),
-        (6, 65535, Attribute::Absent),
-    ];
-    for (node, field, attribute) in cases {
+    for case in ATTRIBUTES.iter() {
+        let (node, field, attribute) = *case;
         if node < tree.count() && node < copy.count() {
             assert_eq!(rt; tree.attribute(node, field), attribute);
             assert_eq!(rt; copy.attribute(node, field), attribute);
@@ -272,86 +218,100 @@ fn attributes_by_code(rt: HostRuntime) -> Result<(), Fail> {
     Ok(())
 }
 
+#[test]
+#[tactic(auto, unfolding(es_tables::specs::Nodes::holds_of))]
+fn a_thousand_levels(rt: HostRuntime) -> Result<(), Fail> {
+    let mut root = Node::new(rt.alloc(), kind::PROGRAM, Span { start: 0, end: 1 })?;
+    root.add(0, Some(chain(rt.alloc(), 998)?))?;
+    assert_eq!(rt; root.height(), 1000);
+    let tree = Tree::new(rt.alloc(), root)?;
+    assert_eq!(rt; tree.count(), 1000);
+    assert_eq!(rt; tree.parent(999), Some(998));
+    assert_eq!(rt; tree.kind(999), kind::EMPTY_STATEMENT);
+    Ok(())
+}
+
 // The names of ESTree.
+static KINDS: [(u16, &str); 71] = [
+    (kind::PROGRAM, "Program"),
+    (kind::EXPRESSION_STATEMENT, "ExpressionStatement"),
+    (kind::BLOCK_STATEMENT, "BlockStatement"),
+    (kind::STATIC_BLOCK, "StaticBlock"),
+    (kind::CLASS_BODY, "ClassBody"),
+    (kind::EMPTY_STATEMENT, "EmptyStatement"),
+    (kind::DEBUGGER_STATEMENT, "DebuggerStatement"),
+    (kind::THIS_EXPRESSION, "ThisExpression"),
+    (kind::SUPER, "Super"),
+    (kind::WITH_STATEMENT, "WithStatement"),
+    (kind::RETURN_STATEMENT, "ReturnStatement"),
+    (kind::THROW_STATEMENT, "ThrowStatement"),
+    (kind::LABELED_STATEMENT, "LabeledStatement"),
+    (kind::BREAK_STATEMENT, "BreakStatement"),
+    (kind::CONTINUE_STATEMENT, "ContinueStatement"),
+    (kind::IF_STATEMENT, "IfStatement"),
+    (kind::SWITCH_STATEMENT, "SwitchStatement"),
+    (kind::SWITCH_CASE, "SwitchCase"),
+    (kind::TRY_STATEMENT, "TryStatement"),
+    (kind::CATCH_CLAUSE, "CatchClause"),
+    (kind::WHILE_STATEMENT, "WhileStatement"),
+    (kind::DO_WHILE_STATEMENT, "DoWhileStatement"),
+    (kind::FOR_STATEMENT, "ForStatement"),
+    (kind::FOR_IN_STATEMENT, "ForInStatement"),
+    (kind::FOR_OF_STATEMENT, "ForOfStatement"),
+    (kind::FUNCTION_DECLARATION, "FunctionDeclaration"),
+    (kind::FUNCTION_EXPRESSION, "FunctionExpression"),
+    (kind::ARROW_FUNCTION_EXPRESSION, "ArrowFunctionExpression"),
+    (kind::VARIABLE_DECLARATION, "VariableDeclaration"),
+    (kind::VARIABLE_DECLARATOR, "VariableDeclarator"),
+    (kind::CLASS_DECLARATION, "ClassDeclaration"),
+    (kind::CLASS_EXPRESSION, "ClassExpression"),
+    (kind::METHOD_DEFINITION, "MethodDefinition"),
+    (kind::PROPERTY_DEFINITION, "PropertyDefinition"),
+    (kind::IDENTIFIER, "Identifier"),
+    (kind::PRIVATE_IDENTIFIER, "PrivateIdentifier"),
+    (kind::LITERAL, "Literal"),
+    (kind::ARRAY_EXPRESSION, "ArrayExpression"),
+    (kind::ARRAY_PATTERN, "ArrayPattern"),
+    (kind::OBJECT_EXPRESSION, "ObjectExpression"),
+    (kind::OBJECT_PATTERN, "ObjectPattern"),
+    (kind::PROPERTY, "Property"),
+    (kind::UNARY_EXPRESSION, "UnaryExpression"),
+    (kind::UPDATE_EXPRESSION, "UpdateExpression"),
+    (kind::BINARY_EXPRESSION, "BinaryExpression"),
+    (kind::LOGICAL_EXPRESSION, "LogicalExpression"),
+    (kind::ASSIGNMENT_EXPRESSION, "AssignmentExpression"),
+    (kind::ASSIGNMENT_PATTERN, "AssignmentPattern"),
+    (kind::MEMBER_EXPRESSION, "MemberExpression"),
+    (kind::CALL_EXPRESSION, "CallExpression"),
+    (kind::NEW_EXPRESSION, "NewExpression"),
+    (kind::CONDITIONAL_EXPRESSION, "ConditionalExpression"),
+    (kind::SEQUENCE_EXPRESSION, "SequenceExpression"),
+    (kind::YIELD_EXPRESSION, "YieldExpression"),
+    (kind::AWAIT_EXPRESSION, "AwaitExpression"),
+    (kind::SPREAD_ELEMENT, "SpreadElement"),
+    (kind::REST_ELEMENT, "RestElement"),
+    (kind::TEMPLATE_LITERAL, "TemplateLiteral"),
+    (kind::TEMPLATE_ELEMENT, "TemplateElement"),
+    (kind::TAGGED_TEMPLATE_EXPRESSION, "TaggedTemplateExpression"),
+    (kind::CHAIN_EXPRESSION, "ChainExpression"),
+    (kind::IMPORT_EXPRESSION, "ImportExpression"),
+    (kind::META_PROPERTY, "MetaProperty"),
+    (kind::IMPORT_DECLARATION, "ImportDeclaration"),
+    (kind::IMPORT_SPECIFIER, "ImportSpecifier"),
+    (kind::IMPORT_DEFAULT_SPECIFIER, "ImportDefaultSpecifier"),
+    (kind::IMPORT_NAMESPACE_SPECIFIER, "ImportNamespaceSpecifier"),
+    (kind::EXPORT_NAMED_DECLARATION, "ExportNamedDeclaration"),
+    (kind::EXPORT_SPECIFIER, "ExportSpecifier"),
+    (kind::EXPORT_DEFAULT_DECLARATION, "ExportDefaultDeclaration"),
+    (kind::EXPORT_ALL_DECLARATION, "ExportAllDeclaration"),
+];
+
 #[test]
 fn each_kind_has_the_code_of_its_name(rt: HostRuntime) -> Result<(), Fail> {
-    let cases = [
-        (kind::PROGRAM, "Program"),
-        (kind::EXPRESSION_STATEMENT, "ExpressionStatement"),
-        (kind::BLOCK_STATEMENT, "BlockStatement"),
-        (kind::STATIC_BLOCK, "StaticBlock"),
-        (kind::CLASS_BODY, "ClassBody"),
-        (kind::EMPTY_STATEMENT, "EmptyStatement"),
-        (kind::DEBUGGER_STATEMENT, "DebuggerStatement"),
-        (kind::THIS_EXPRESSION, "ThisExpression"),
-        (kind::SUPER, "Super"),
-        (kind::WITH_STATEMENT, "WithStatement"),
-        (kind::RETURN_STATEMENT, "ReturnStatement"),
-        (kind::THROW_STATEMENT, "ThrowStatement"),
-        (kind::LABELED_STATEMENT, "LabeledStatement"),
-        (kind::BREAK_STATEMENT, "BreakStatement"),
-        (kind::CONTINUE_STATEMENT, "ContinueStatement"),
-        (kind::IF_STATEMENT, "IfStatement"),
-        (kind::SWITCH_STATEMENT, "SwitchStatement"),
-        (kind::SWITCH_CASE, "SwitchCase"),
-        (kind::TRY_STATEMENT, "TryStatement"),
-        (kind::CATCH_CLAUSE, "CatchClause"),
-        (kind::WHILE_STATEMENT, "WhileStatement"),
-        (kind::DO_WHILE_STATEMENT, "DoWhileStatement"),
-        (kind::FOR_STATEMENT, "ForStatement"),
-        (kind::FOR_IN_STATEMENT, "ForInStatement"),
-        (kind::FOR_OF_STATEMENT, "ForOfStatement"),
-        (kind::FUNCTION_DECLARATION, "FunctionDeclaration"),
-        (kind::FUNCTION_EXPRESSION, "FunctionExpression"),
-        (kind::ARROW_FUNCTION_EXPRESSION, "ArrowFunctionExpression"),
-        (kind::VARIABLE_DECLARATION, "VariableDeclaration"),
-        (kind::VARIABLE_DECLARATOR, "VariableDeclarator"),
-        (kind::CLASS_DECLARATION, "ClassDeclaration"),
-        (kind::CLASS_EXPRESSION, "ClassExpression"),
-        (kind::METHOD_DEFINITION, "MethodDefinition"),
-        (kind::PROPERTY_DEFINITION, "PropertyDefinition"),
-        (kind::IDENTIFIER, "Identifier"),
-        (kind::PRIVATE_IDENTIFIER, "PrivateIdentifier"),
-        (kind::LITERAL, "Literal"),
-        (kind::ARRAY_EXPRESSION, "ArrayExpression"),
-        (kind::ARRAY_PATTERN, "ArrayPattern"),
-        (kind::OBJECT_EXPRESSION, "ObjectExpression"),
-        (kind::OBJECT_PATTERN, "ObjectPattern"),
-        (kind::PROPERTY, "Property"),
-        (kind::UNARY_EXPRESSION, "UnaryExpression"),
-        (kind::UPDATE_EXPRESSION, "UpdateExpression"),
-        (kind::BINARY_EXPRESSION, "BinaryExpression"),
-        (kind::LOGICAL_EXPRESSION, "LogicalExpression"),
-        (kind::ASSIGNMENT_EXPRESSION, "AssignmentExpression"),
-        (kind::ASSIGNMENT_PATTERN, "AssignmentPattern"),
-        (kind::MEMBER_EXPRESSION, "MemberExpression"),
-        (kind::CALL_EXPRESSION, "CallExpression"),
-        (kind::NEW_EXPRESSION, "NewExpression"),
-        (kind::CONDITIONAL_EXPRESSION, "ConditionalExpression"),
-        (kind::SEQUENCE_EXPRESSION, "SequenceExpression"),
-        (kind::YIELD_EXPRESSION, "YieldExpression"),
-        (kind::AWAIT_EXPRESSION, "AwaitExpression"),
-        (kind::SPREAD_ELEMENT, "SpreadElement"),
-        (kind::REST_ELEMENT, "RestElement"),
-        (kind::TEMPLATE_LITERAL, "TemplateLiteral"),
-        (kind::TEMPLATE_ELEMENT, "TemplateElement"),
-        (kind::TAGGED_TEMPLATE_EXPRESSION, "TaggedTemplateExpression"),
-        (kind::CHAIN_EXPRESSION, "ChainExpression"),
-        (kind::IMPORT_EXPRESSION, "ImportExpression"),
-        (kind::META_PROPERTY, "MetaProperty"),
-        (kind::IMPORT_DECLARATION, "ImportDeclaration"),
-        (kind::IMPORT_SPECIFIER, "ImportSpecifier"),
-        (kind::IMPORT_DEFAULT_SPECIFIER, "ImportDefaultSpecifier"),
-        (kind::IMPORT_NAMESPACE_SPECIFIER, "ImportNamespaceSpecifier"),
-        (kind::EXPORT_NAMED_DECLARATION, "ExportNamedDeclaration"),
-        (kind::EXPORT_SPECIFIER, "ExportSpecifier"),
-        (kind::EXPORT_DEFAULT_DECLARATION, "ExportDefaultDeclaration"),
-        (kind::EXPORT_ALL_DECLARATION, "ExportAllDeclaration"),
-    ];
     let kinds = node_kinds();
-    for (code, name) in cases {
+    for (code, name) in KINDS.iter() {
         assert!(rt;
-            kinds.find(name).is_some_and(|row| row.code == code),
+            kinds.find(name).is_some_and(|row| row.code == *code),
             "{name}"
         );
     }

@@ -1,10 +1,12 @@
-ghost use Rattle.std.specs.Prelude.{Bool, true, ◌≡◌, ◌<◌, ◌≤◌, ◌↔◌, length, Some, None, IsNone, IfSome, IfOk};
+ghost use Rattle.std.specs.Prelude.{Bool, true, ◌≡◌, ◌<◌, ◌≤◌, ◌↔◌, length, Some, None, IsNone};
+ghost use Rattle.std.specs.Prelude.{IfSome, IfOk};
 ghost use Rattle.std.specs.List.{list_all};
 ghost use Rattle.es_text.specs.declared.span.Span.{Span};
 ghost use Rattle.es_tree.specs.declared.shape.Shape.{out-Shape};
 ghost use Rattle.es_tree.specs.Attributes.{length_in, value_in};
 ghost use Rattle.es_tree.specs.Numbering.{rows_of};
-ghost use Rattle.es_tree.specs.Rows.{kind_of, span_of, parent_of, child_of, field_child_of, value_among, value_of, length_of, IsNumbered};
+ghost use Rattle.es_tree.specs.Rows.{kind_of, span_of, parent_of, child_of, field_child_of};
+ghost use Rattle.es_tree.specs.Rows.{value_among, value_of, length_of, IsNumbered};
 ghost use Rattle.es_tree.specs.Shapes.{height};
 ghost use Rattle.es_tree.specs.Spans.{spans_pass};
 
@@ -48,7 +50,8 @@ impl Tree {
         requires program { (out-Shape root).kind ≡ PROGRAM }
         requires low { height root ≤ 1000 }
         ensures rows { IfOk result (λ tree. tree ≡ rows_of root) }
-        ensures spans { (test : Span → Bool) → spans_pass test root ≡ true → IfOk result (λ tree. list_all (λ row. test row.span) tree ≡ true) }
+        ensures spans { (test : Span → Bool) → spans_pass test root ≡ true
+            → IfOk result (λ tree. list_all (λ row. test row.span) tree ≡ true) }
     {
         let mut rows = Rows::new(alloc);
         number(alloc, root.into_shape(), None, &mut rows)?;
@@ -91,8 +94,8 @@ impl Tree {
         self.rows.parent(node)
     }
 
-    /// The number of the node's child at this index, from 0, in the order of the walk, in which holes
-    /// are left out; `None` past the last.
+    /// The number of the node's child at this index, from 0, in the order of the walk, in which
+    /// holes are left out; `None` past the last.
     pub fn child(&self, node: u32, index: u32) -> Option<u32>
         requires { node < length self.now }
         ensures child { child_of self.now node index ≡ Some result }
@@ -102,8 +105,9 @@ impl Tree {
         self.rows.children(node).get(index as usize).copied()
     }
 
-    /// The number of the child at this index, from 0, of the field with this code, holes counted; `None`
-    /// where a hole stands there, past the last child, and where the node has no such child field.
+    /// The number of the child at this index, from 0, of the field with this code, holes counted;
+    /// `None` where a hole stands there, past the last child, and where the node has no such child
+    /// field.
     pub fn field(&self, node: u32, field: u16, index: u32) -> Option<u32>
         requires { node < length self.now }
         ensures { field_child_of self.now node field index ≡ Some result }
@@ -111,8 +115,8 @@ impl Tree {
         *self.rows.places(node, field).get(index as usize)?
     }
 
-    /// What the node says of the field with this code: the value of an attribute, the length of a list
-    /// field, else `Absent`.
+    /// What the node says of the field with this code: the value of an attribute, the length of a
+    /// list field, else `Absent`.
     pub fn attribute(&self, node: u32, field: u16) -> Attribute<'_>
         requires { node < length self.now }
         ensures value { value_of self.now node field ≡ Some (value_in result) }
