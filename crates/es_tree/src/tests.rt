@@ -76,60 +76,58 @@ fn script(alloc: Global) -> Result<Node, NoMemory>
 }
 
 // Kind, span, parent, and the children without holes: `f(a, [, b]);` by ESTree.
-static NODES: [(u16, Span, Option<u32>, [Option<u32>; 3]); 7] = [
-    (
-        kind::PROGRAM,
-        Span { start: 0, end: 12 },
-        None,
-        [Some(1), None, None],
-    ),
-    (
-        kind::EXPRESSION_STATEMENT,
-        Span { start: 0, end: 12 },
-        Some(0),
-        [Some(2), None, None],
-    ),
-    (
-        kind::CALL_EXPRESSION,
-        Span { start: 0, end: 11 },
-        Some(1),
-        [Some(3), Some(4), Some(5)],
-    ),
-    (
-        kind::IDENTIFIER,
-        Span { start: 0, end: 1 },
-        Some(2),
-        [None, None, None],
-    ),
-    (
-        kind::IDENTIFIER,
-        Span { start: 2, end: 3 },
-        Some(2),
-        [None, None, None],
-    ),
-    (
-        kind::ARRAY_EXPRESSION,
-        Span { start: 5, end: 10 },
-        Some(2),
-        [Some(6), None, None],
-    ),
-    (
-        kind::IDENTIFIER,
-        Span { start: 8, end: 9 },
-        Some(5),
-        [None, None, None],
-    ),
-];
-
 #[test]
 fn nodes_by_number(rt: HostRuntime) -> Result<(), Fail> {
     let root = script(rt.alloc())?;
     assert_eq!(rt; root.height(), 5);
     let tree = Tree::new(rt.alloc(), root)?;
     assert_eq!(rt; tree.count(), 7);
+    let nodes = [
+        (
+            kind::PROGRAM,
+            Span { start: 0, end: 12 },
+            None,
+            [Some(1), None, None],
+        ),
+        (
+            kind::EXPRESSION_STATEMENT,
+            Span { start: 0, end: 12 },
+            Some(0),
+            [Some(2), None, None],
+        ),
+        (
+            kind::CALL_EXPRESSION,
+            Span { start: 0, end: 11 },
+            Some(1),
+            [Some(3), Some(4), Some(5)],
+        ),
+        (
+            kind::IDENTIFIER,
+            Span { start: 0, end: 1 },
+            Some(2),
+            [None, None, None],
+        ),
+        (
+            kind::IDENTIFIER,
+            Span { start: 2, end: 3 },
+            Some(2),
+            [None, None, None],
+        ),
+        (
+            kind::ARRAY_EXPRESSION,
+            Span { start: 5, end: 10 },
+            Some(2),
+            [Some(6), None, None],
+        ),
+        (
+            kind::IDENTIFIER,
+            Span { start: 8, end: 9 },
+            Some(5),
+            [None, None, None],
+        ),
+    ];
     let mut number = 0;
-    for node in NODES.iter() {
-        let (kind, span, parent, children) = *node;
+    for (kind, span, parent, children) in nodes {
         if number < tree.count() {
             assert_eq!(rt; tree.kind(number), kind);
             assert_eq!(rt; tree.span(number), span);
