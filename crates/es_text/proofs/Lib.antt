@@ -1,8 +1,8 @@
-pub mod CharacterSteps
-pub mod Decoding
-pub mod Found
-pub mod Lines
+pub mod FoundLineLemmas
+pub mod LineEndLemmas
+pub mod LineStartLemmas
 pub mod ListLemmas
-pub mod Marks
-pub mod Places
-pub mod Units
+pub mod PlaceLemmas
+pub mod TextLemmas
+pub mod UnitCountLemmas
+pub mod UnitMarkLemmas

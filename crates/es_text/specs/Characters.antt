@@ -1,7 +1,6 @@
 -- Classes of characters, and the names of those that tokens are told by.
 use Rattle.std.specs.Prelude.{ℕ, Bool, not, ◌&&◌, ◌||◌, ◌==◌, nat_le}
 use Rattle.unicode_ident.specs.Ident.{is_xid_start, is_xid_continue}
-use Rattle.es_text.specs.Texts.{is_line_terminator}
 
 abbrev pub line_feed : ℕ
 line_feed = 10
@@ -69,6 +68,10 @@ is_white_space c =
     (c == 9 || c == 11 || c == 12 || c == 0xFEFF)
     || (c == 32 || c == 0xA0 || c == 0x1680 || (nat_le 0x2000 c && nat_le c 0x200A) || c == 0x202F || c == 0x205F || c == 0x3000)
 
+-- 12.3: LF, CR, U+2028 and U+2029
+abbrev pub is_line_terminator : ℕ → Bool
+is_line_terminator c = (c == line_feed || c == carriage_return) || (c == 0x2028 || c == 0x2029)
+
 abbrev pub is_in_line : ℕ → Bool
 is_in_line c = not (is_line_terminator c)
 
@@ -83,14 +86,23 @@ is_part c = is_xid_continue c || (c == dollar_sign || c == 0x200C || c == 0x200D
 abbrev pub is_decimal : ℕ → Bool
 is_decimal c = nat_le 48 c && nat_le c 57
 
+abbrev pub is_nonzero : ℕ → Bool
+is_nonzero c = nat_le 49 c && nat_le c 57
+
 abbrev pub is_octal : ℕ → Bool
 is_octal c = nat_le 48 c && nat_le c 55
+
+abbrev pub is_eight_or_nine : ℕ → Bool
+is_eight_or_nine c = nat_le 56 c && nat_le c 57
 
 abbrev pub is_binary : ℕ → Bool
 is_binary c = nat_le 48 c && nat_le c 49
 
 abbrev pub is_hex : ℕ → Bool
 is_hex c = is_decimal c || (nat_le 65 c && nat_le c 70) || (nat_le 97 c && nat_le c 102)
+
+abbrev pub is_sign : ℕ → Bool
+is_sign c = c == plus_sign || c == hyphen
 
 -- the letters that tell a base, the exponent and a whole number, the first three in either case
 abbrev pub is_letter_x : ℕ → Bool

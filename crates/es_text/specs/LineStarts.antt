@@ -1,9 +1,9 @@
--- What a source keeps so that it finds places fast: where its lines start, in bytes.
+-- What a source keeps so that it finds places fast: the offsets at which its lines start.
 use Rattle.std.specs.Prelude.{ℕ, ◌+◌, ◌<◌, ◌≤◌, slice_index, length, List, [], ◌∷◌, if◌then◌else◌}
 use Rattle.std.specs.Char.{len_utf8}
 use Rattle.es_text.specs.Texts.{ends_line}
 
--- the starts of the lines that start behind a character of these, the first of which stands at this byte
+-- the starts of the lines that start behind a character of these, the first of which stands at this offset
 abbrev pub later_starts : ℕ → List ℕ → List ℕ
 later_starts at [] = []
 later_starts at (c ∷ cs) =
@@ -12,7 +12,7 @@ later_starts at (c ∷ cs) =
 abbrev pub line_starts : List ℕ → List ℕ
 line_starts characters = 0 ∷ later_starts 0 characters
 
--- of the line starts, the one at k is the last that this byte reaches
+-- of the line starts, the one at k is the last that is no greater than this offset
 pub record IsLineAt (starts : List ℕ) (k at : ℕ) : Type 0 where
   pub within : k < length starts
   pub reached : slice_index starts k ≤ at

@@ -1,76 +1,78 @@
--- Numbers. ECMA-262, 12.8.3, legacy octals among them.
-use Rattle.std.specs.Prelude.{ℕ, List, [], ◌∷◌, Bool, ◌||◌, ◌&&◌, ◌==◌, Option, Some, None, if◌then◌else◌}
-use Rattle.std.specs.Option.{option_map, option_and_then, unwrap_or}
-use Rattle.es_text.specs.Rest.{begins, begins_with, tail, drop_while}
-use Rattle.es_text.specs.Characters.{is_start, is_decimal, is_octal, is_binary, is_hex, is_letter_x, is_letter_o, is_letter_b, is_letter_e, letter_n, full_stop, hyphen, low_line, plus_sign, zero_digit}
+-- Numbers. ECMA-262, 12.8.3 Numeric Literals, by its productions.
+use Rattle.std.specs.Prelude.{ℕ, List, [], ◌∷◌, Bool, ◌||◌, Option, Some, None, if◌then◌else◌}
+use Rattle.std.specs.Option.{option_and_then}
+use Rattle.es_text.specs.Rest.{begins}
+use Rattle.es_text.specs.Productions.{just, longest_of, one_of, optional, repeated, sequence}
+use Rattle.es_text.specs.Characters.{full_stop, is_binary, is_decimal, is_eight_or_nine, is_hex, is_letter_b, is_letter_e, is_letter_o, is_letter_x, is_nonzero, is_octal, is_sign, is_start, letter_n, low_line, zero_digit}
 
--- behind a digit: what follows the further ones. One `_` may stand between two digits
-unfoldable pub further : (ℕ → Bool) → List ℕ → List ℕ
-further digit [] = []
-further digit (c ∷ cs) = if digit c || (c == low_line && begins digit cs) then further digit cs else c ∷ cs
+-- a further digit, behind a digit. NumericLiteralSeparator, `_`, may stand before it
+unfoldable pub further_digit : (ℕ → Bool) → List ℕ → Option (List ℕ)
+further_digit digit cs = sequence (optional (just low_line) ∷ one_of digit ∷ []) cs
 
--- what follows digits, of which there is one at least
-abbrev pub digits : (ℕ → Bool) → List ℕ → Option (List ℕ)
-digits digit [] = None
-digits digit (c ∷ cs) = if digit c then Some (further digit cs) else None
+-- DecimalDigits, BinaryDigits, OctalDigits, HexDigits :: digits of the base, one at least
+unfoldable pub digits : (ℕ → Bool) → List ℕ → Option (List ℕ)
+digits digit cs = sequence (one_of digit ∷ repeated (further_digit digit) ∷ []) cs
 
-abbrev pub without_sign : List ℕ → List ℕ
-without_sign [] = []
-without_sign (c ∷ cs) = if c == plus_sign || c == hyphen then cs else c ∷ cs
+-- ExponentPart :: `e` or `E`, a sign or none, DecimalDigits
+unfoldable pub exponent : List ℕ → Option (List ℕ)
+exponent cs = sequence (one_of is_letter_e ∷ optional (one_of is_sign) ∷ digits is_decimal ∷ []) cs
 
--- what follows an exponent, if one stands there: e or E, a sign or none, digits
-unfoldable pub exponent : List ℕ → List ℕ
-exponent [] = []
-exponent (c ∷ cs) = if is_letter_e c then unwrap_or (digits is_decimal (without_sign cs)) (c ∷ cs) else c ∷ cs
+-- a fraction :: `.`, DecimalDigits or nothing
+unfoldable pub fraction : List ℕ → Option (List ℕ)
+fraction cs = sequence (just full_stop ∷ optional (digits is_decimal) ∷ []) cs
 
--- what follows a fraction, if one stands there: a point, then digits or nothing
-unfoldable pub fraction : List ℕ → List ℕ
-fraction [] = []
-fraction (c ∷ cs) = if c == full_stop then unwrap_or (digits is_decimal cs) cs else c ∷ cs
+-- NonZeroDigit, and further digits or none
+unfoldable pub nonzero_integer : List ℕ → Option (List ℕ)
+nonzero_integer cs = sequence (one_of is_nonzero ∷ repeated (further_digit is_decimal) ∷ []) cs
 
--- what follows the suffix n, if it stands there
-abbrev pub suffix : List ℕ → List ℕ
-suffix [] = []
-suffix (c ∷ cs) = if c == letter_n then cs else c ∷ cs
+-- LegacyOctalIntegerLiteral :: `0` and octal digits, one at least
+unfoldable pub legacy_octal : List ℕ → Option (List ℕ)
+legacy_octal cs = sequence (just zero_digit ∷ one_of is_octal ∷ repeated (one_of is_octal) ∷ []) cs
 
--- the first form, behind its 0: a letter that tells the base, digits of that base, and a suffix or none
-unfoldable pub based : List ℕ → Option (List ℕ)
-based [] = None
-based (c ∷ cs) =
-    option_map suffix
-    (if is_letter_x c then digits is_hex cs
-    else if is_letter_o c then digits is_octal cs
-    else if is_letter_b c then digits is_binary cs
-    else None)
+-- NonOctalDecimalIntegerLiteral :: `0` and decimal digits, `8` or `9` among them
+unfoldable pub non_octal_integer : List ℕ → Option (List ℕ)
+non_octal_integer cs =
+    sequence (just zero_digit ∷ repeated (one_of is_octal) ∷ one_of is_eight_or_nine ∷ repeated (one_of is_decimal) ∷ []) cs
 
--- behind the digits before a point: a suffix, or a fraction or none and then an exponent or none
-unfoldable pub after_whole : List ℕ → List ℕ
-after_whole cs = if begins_with letter_n cs then tail cs else exponent (fraction cs)
+-- DecimalIntegerLiteral
+unfoldable pub decimal_integer : List ℕ → Option (List ℕ)
+decimal_integer cs = longest_of (just zero_digit ∷ nonzero_integer ∷ non_octal_integer ∷ []) cs
 
--- behind a first digit 0, where a digit follows: neither `_` nor suffix. Digits that are all from 0 to 7
--- are a legacy octal, which takes neither fraction nor exponent
-unfoldable pub after_zero : List ℕ → List ℕ
-after_zero cs =
-    if begins is_decimal (drop_while is_octal cs) then exponent (fraction (drop_while is_decimal cs)) else drop_while is_octal cs
+-- DecimalLiteral :: DecimalIntegerLiteral, a fraction or none, ExponentPart or nothing
+unfoldable pub decimal_literal : List ℕ → Option (List ℕ)
+decimal_literal cs = sequence (decimal_integer ∷ optional fraction ∷ optional exponent ∷ []) cs
 
--- the second form, behind its first digit
-unfoldable pub decimal : ℕ → List ℕ → List ℕ
-decimal c cs =
-    if c == zero_digit then (if begins is_decimal cs then after_zero cs else after_whole cs)
-    else after_whole (further is_decimal cs)
+-- DecimalLiteral :: `.`, DecimalDigits, ExponentPart or nothing
+unfoldable pub fraction_literal : List ℕ → Option (List ℕ)
+fraction_literal cs = sequence (just full_stop ∷ digits is_decimal ∷ optional exponent ∷ []) cs
 
--- The longest text of the three forms: where the first form fits, it is longer than the second, which is
--- the 0 alone there. The third form is a point, digits, and an exponent or none
-unfoldable pub number_text : List ℕ → Option (List ℕ)
-number_text [] = None
-number_text (c ∷ cs) =
-    if c == full_stop then option_map exponent (digits is_decimal cs)
-    else if is_decimal c then Some (unwrap_or (if c == zero_digit then based cs else None) (decimal c cs))
-    else None
+-- DecimalBigIntegerLiteral :: `0`, or NonZeroDigit and further digits; BigIntLiteralSuffix, `n`
+unfoldable pub big_integer : List ℕ → Option (List ℕ)
+big_integer cs = sequence (longest_of (just zero_digit ∷ nonzero_integer ∷ []) ∷ just letter_n ∷ []) cs
 
--- what follows a number. The next character must be no start and no digit, and no shorter text is tried
+-- NonDecimalIntegerLiteral :: `0`, the letter of the base, digits of that base; BigIntLiteralSuffix or nothing
+unfoldable pub based_integer : (ℕ → Bool) → (ℕ → Bool) → List ℕ → Option (List ℕ)
+based_integer letter digit cs =
+    sequence (just zero_digit ∷ one_of letter ∷ digits digit ∷ optional (just letter_n) ∷ []) cs
+
+-- NumericLiteral: the longest text of these
+unfoldable pub numeric_literal : List ℕ → Option (List ℕ)
+numeric_literal cs =
+    longest_of
+    (decimal_literal
+    ∷ fraction_literal
+    ∷ big_integer
+    ∷ based_integer is_letter_x is_hex
+    ∷ based_integer is_letter_o is_octal
+    ∷ based_integer is_letter_b is_binary
+    ∷ legacy_octal
+    ∷ [])
+    cs
+
+-- The character behind a NumericLiteral must be no start of a name and no digit; no shorter text is tried
 abbrev pub unless_joined : List ℕ → Option (List ℕ)
 unless_joined cs = if begins is_start cs || begins is_decimal cs then None else Some cs
 
+-- what follows a number
 abbrev pub after_number : List ℕ → Option (List ℕ)
-after_number cs = option_and_then unless_joined (number_text cs)
+after_number cs = option_and_then unless_joined (numeric_literal cs)

@@ -1,15 +1,15 @@
--- The characters from a byte of a text on, and the byte at which they begin.
+-- The characters from an offset of a text on, and the offset at which they begin.
 use Rattle.std.specs.Prelude.{ℕ, zero, suc, ◌-◌, Bool, false, ◌==◌, List, [], ◌∷◌, drop, length, Option, Some, None, if◌then◌else◌}
 use Rattle.std.specs.Option.{option_map_or}
 use Rattle.std.specs.Str.{chars, encode_utf8_all}
 
--- what stands from this byte of a text on; texts are given in UTF-8
+-- what stands from this offset of a text on; texts are given in UTF-8, and an offset counts its bytes
 unfoldable pub rest : List ℕ → ℕ → List ℕ
 rest text at = chars (drop at text)
 
--- where these characters stand, with which the text ends
-abbrev pub place_of : List ℕ → List ℕ → ℕ
-place_of text cs = length text - length (encode_utf8_all cs)
+-- the offset at which these characters stand, with which the text ends
+abbrev pub offset_of : List ℕ → List ℕ → ℕ
+offset_of text cs = length text - length (encode_utf8_all cs)
 
 -- whether the first character is in a class
 abbrev pub begins : (ℕ → Bool) → List ℕ → Bool

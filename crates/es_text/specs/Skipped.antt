@@ -3,9 +3,8 @@ use Rattle.std.specs.Prelude.{ℕ, zero, suc, List, [], ◌∷◌, ◌++◌, len
 use Rattle.std.specs.List.{list_any}
 use Rattle.std.specs.Option.{option_map_or}
 use Rattle.es_text.specs.declared.token.Comment.{Comment}
-use Rattle.es_text.specs.Texts.{is_line_terminator}
-use Rattle.es_text.specs.Rest.{place_of, begins_with, tail, drop_while}
-use Rattle.es_text.specs.Characters.{is_white_space, is_in_line, asterisk, exclamation_mark, number_sign, slash}
+use Rattle.es_text.specs.Rest.{offset_of, begins_with, tail, drop_while}
+use Rattle.es_text.specs.Characters.{is_in_line, is_line_terminator, is_white_space, asterisk, exclamation_mark, number_sign, slash}
 
 -- one white space, line end or comment: whether it is or holds a line end, and what follows it. Of a
 -- comment also whether it is a block comment
@@ -67,7 +66,7 @@ hold_line ps = list_any (λ p. p.line) ps
 abbrev pub comment_of : List ℕ → List ℕ → PieceKind → List ℕ → List Comment
 comment_of text cs blank behind = []
 comment_of text cs (comment block) behind =
-    record { block = block; span = record { start = place_of text cs; end = place_of text behind } } ∷ []
+    record { block = block; span = record { start = offset_of text cs; end = offset_of text behind } } ∷ []
 
 abbrev pub comments_among : List ℕ → List ℕ → List Piece → List Comment
 comments_among text cs [] = []

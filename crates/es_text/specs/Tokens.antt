@@ -1,6 +1,6 @@
--- The tokens of a text. ECMA-262, 12.5 to 12.8: a token is read in a mode, which the grammar fixes, as it
+-- The tokens of a text. ECMA-262 (13th edition), 12.5 to 12.8: a token is read in a mode, which the grammar fixes, as it
 -- does the standard's goal symbols.
-use Rattle.std.specs.Prelude.{ℕ, List, [], ◌∷◌, ◌++◌, drop, ◌||◌, ◌&&◌, ◌==◌, Option, Some, None, if◌then◌else◌}
+use Rattle.std.specs.Prelude.{ℕ, List, [], ◌∷◌, ◌++◌, drop, length, ◌||◌, ◌&&◌, ◌==◌, Option, Some, None, if◌then◌else◌}
 use Rattle.std.specs.Option.{option_map, option_or}
 use Rattle.es_text.specs.declared.token.LexMode.{LexMode}
 use Rattle.es_text.specs.declared.token.LexMode.TheVariants as mode
@@ -8,12 +8,11 @@ use Rattle.es_text.specs.declared.token.Token.{Token}
 use Rattle.es_text.specs.declared.token.TokenKind.{TokenKind}
 use Rattle.es_text.specs.declared.token.TokenKind.TheVariants as kind
 use Rattle.es_text.specs.declared.token.Comment.{Comment}
-use Rattle.es_text.specs.Texts.{is_line_terminator}
-use Rattle.es_text.specs.Rest.{rest, place_of, begins_with, closed_by, many, tail, drop_while}
-use Rattle.es_text.specs.Characters.{is_start, is_part, apostrophe, asterisk, backslash, backtick, carriage_return, dollar_sign, left_brace, left_bracket, line_feed, number_sign, quotation_mark, right_brace, right_bracket, slash}
+use Rattle.es_text.specs.Rest.{rest, offset_of, begins_with, closed_by, many, tail, drop_while}
+use Rattle.es_text.specs.Characters.{is_line_terminator, is_part, is_start, apostrophe, asterisk, backslash, backtick, carriage_return, dollar_sign, left_brace, left_bracket, line_feed, number_sign, quotation_mark, right_brace, right_bracket, slash}
 use Rattle.es_text.specs.Skipped.{Piece, skipped, behind_all, hold_line, comments_among}
 use Rattle.es_text.specs.Numbers.{after_number}
-use Rattle.es_text.specs.Punctuators.{longest}
+use Rattle.es_text.specs.Punctuators.{longest, punctuator_code}
 
 -- the kind of a token, and what follows it
 pub record Form : Type 0 where
@@ -122,7 +121,8 @@ template_tail (c ∷ cs) = if c == right_brace then after_template kind.Tail kin
 
 -- 12.7: the longest punctuator
 unfoldable pub punctuator : List ℕ → Option Form
-punctuator cs = option_map (λ found. record { kind = kind.Punctuator found.code; behind = drop found.len cs }) (longest cs)
+punctuator cs =
+    option_map (λ text. record { kind = kind.Punctuator (punctuator_code text); behind = drop (length text) cs }) (longest cs)
 
 -- 12, its goal symbols: a slash begins a regular expression, or else a punctuator; a brace goes on with a
 -- template, or else is a punctuator
@@ -142,29 +142,29 @@ form m (c ∷ cs) =
     (option_or (of_kind kind.Text (string (c ∷ cs)))
     (option_or (template (c ∷ cs)) (by_mode m (c ∷ cs))))))
 
--- what is skipped from this byte of a text on, and what follows it
+-- what is skipped from this offset of a text on, and what follows it
 abbrev pub skipped_at : List ℕ → ℕ → List Piece
 skipped_at text at = skipped (at == 0) (rest text at)
 
 abbrev pub behind_skipped : List ℕ → ℕ → List ℕ
 behind_skipped text at = behind_all (rest text at) (skipped_at text at)
 
--- the first place behind what is skipped
-abbrev pub first_place : List ℕ → ℕ → ℕ
-first_place text at = place_of text (behind_skipped text at)
+-- the first offset behind what is skipped
+abbrev pub first_offset : List ℕ → ℕ → ℕ
+first_offset text at = offset_of text (behind_skipped text at)
 
--- the token that is read from this byte of a text on, in UTF-8, or None where no form fits
+-- the token that is read from this offset of a text on, or None where no form fits
 unfoldable pub token : List ℕ → ℕ → LexMode → Option Token
 token text at m =
     option_map
     (λ f. record {
       kind = f.kind;
-      span = record { start = first_place text at; end = place_of text f.behind };
+      span = record { start = first_offset text at; end = offset_of text f.behind };
       line_before = hold_line (skipped_at text at);
     })
     (form m (behind_skipped text at))
 
--- the comments before the first of these tokens, which is read from this byte on, and between them
+-- the comments before the first of these tokens, which is read from this offset on, and between them
 abbrev pub comments_between : List ℕ → ℕ → List Token → List Comment
 comments_between text at [] = []
 comments_between text at (t ∷ ts) = comments_among text (rest text at) (skipped_at text at) ++ comments_between text t.span.end ts

@@ -5,9 +5,10 @@ use Rattle.std.specs.Str.{IsAscii}
 use Rattle.es_text.specs.declared.unit_counts.TheConstants.{BYTES_A_MARK}
 use Rattle.es_text.specs.declared.unit_counts.UnitCounts.{UnitCounts}
 
--- how many UTF-16 code units the character takes that this byte of UTF-8 begins, and 0 where it begins none
+-- how many UTF-16 code units the character takes that this byte of UTF-8 begins, and 0 where it begins
+-- none: a byte from 0x80 to 0xBF goes on with a character, and one from 0xF0 on begins one beyond U+FFFF
 abbrev pub units_begun : ℕ → ℕ
-units_begun byte = if nat_lt byte 128 then 1 else if nat_lt byte 192 then 0 else if nat_lt byte 240 then 1 else 2
+units_begun byte = if nat_lt byte 0x80 then 1 else if nat_lt byte 0xC0 then 0 else if nat_lt byte 0xF0 then 1 else 2
 
 abbrev pub units_begun_in : List ℕ → ℕ
 units_begun_in bytes = sum_by units_begun bytes

@@ -31,12 +31,14 @@ impl<T> Items<T> {
         }
     }
 
+    /// The list with the items of the Vec, which keeps its memory.
     pub fn from_vec(items: Vec<T>) -> Items<T>
         ensures { result ≡ items.items }
     {
         Items { items }
     }
 
+    /// The Vec of the items, which keeps its memory.
     pub fn into_vec(self) -> Vec<T>
         ensures { result.items ≡ self }
     {
@@ -44,12 +46,14 @@ impl<T> Items<T> {
         items
     }
 
+    /// The items.
     pub fn as_slice(&self) -> &[T]
         ensures { result.now ≡ self.now }
     {
         self.items.as_slice()
     }
 
+    /// How many items there are.
     pub fn len(&self) -> usize
         ensures { result ≡ length self.now }
     {
@@ -66,7 +70,8 @@ impl<T> Items<T> {
     }
 }
 
-/// Puts an item at the end of the list that stands at `at`, and leaves the other lists.
+/// Puts an item at the end of the list at this index, and leaves the other lists. A refused push leaves
+/// all and hands the item back.
 pub fn push_at<T>(lists: &mut Items<Items<T>>, at: usize, item: T) -> Result<(), AllocFailed<T>>
     requires { at < length lists.old }
     ensures ok { OnOk result (lists.new ≡ pushed_at lists.old at item) }

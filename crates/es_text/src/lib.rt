@@ -1,4 +1,5 @@
-//! The words that every layer above speaks in: texts, places in them, lists, and want of memory.
+//! The words that every layer above speaks in: texts, offsets and places in them, tokens, findings, lists,
+//! and what says that memory ran out.
 #![tactic(auto)]
 
 mod finding;
@@ -19,5 +20,5 @@ pub use memory::NoMemory;
 pub use source::{MOST_BYTES, MOST_TEXT_BYTES, Source, SourceFault};
 pub use span::{Place, Span};
 pub use steps::Steps;
-pub use token::{Comment, LexMode, Token, TokenKind};
+pub use token::{Comment, LexMode, SourceType, Token, TokenKind};
 pub use txt::Txt;

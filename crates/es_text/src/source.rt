@@ -1,10 +1,10 @@
-ghost use Rattle.std.specs.Prelude.{◌≡◌, ◌≤◌, ◌<◌, false, length, IfOk, IfErr, OnOk, slice_index, slice_range, string_bytes};
+ghost use Rattle.std.specs.Prelude.{◌≡◌, ◌≤◌, ◌<◌, length, IfOk, IfErr, OnOk, slice_index, slice_range, string_bytes};
 ghost use Rattle.std.specs.List.Sorted.{IsNonDecreasing};
 ghost use Rattle.std.specs.Str.{chars, encode_utf8_all, IsAscii, IsCharBoundary};
 ghost use Rattle.bstr.specs.Utf8.{lossy_chars};
 ghost use Rattle.es_text.specs.LineStarts.{line_starts, IsLineAt};
-ghost use Rattle.es_text.specs.SourceFaults.{TellsLength};
-ghost use Rattle.es_text.specs.Texts.{ends_line, place_at, text_bytes, text_of, units_at};
+ghost use Rattle.es_text.specs.SourceFaults.{most_bytes, TellsLength};
+ghost use Rattle.es_text.specs.Texts.{ends_line, IsPlain, place_at, text_bytes, text_of, units_at};
 
 use crate::memory::NoMemory;
 use crate::span::{Place, Span};
@@ -25,6 +25,7 @@ pub const MOST_TEXT_BYTES: usize = 6_291_456;
 pub enum SourceFault {
     /// The file has more than `MOST_BYTES` bytes: this many.
     TooLong { bytes: u64 },
+    /// Out of memory.
     NoMemory,
 }
 
@@ -39,9 +40,10 @@ impl From<NoMemory> for SourceFault {
     }
 }
 
-/// The text of a file, which finds the place of a byte and the UTF-16 units before it fast.
+/// The text of a file, which finds the place of an offset and the UTF-16 units before it fast.
 ///
-/// Contracts see its characters, and whether a byte order mark stood in front of them. An offset counts bytes of the text's UTF-8, without the mark.
+/// Contracts see its characters, and whether a byte order mark stood in front of them. An offset counts
+/// bytes of the text's UTF-8, without the mark.
 #[derive(Drop, Debug)]
 pub struct Source {
     text: String,
@@ -67,11 +69,14 @@ impl Model for Source {
 }
 
 impl Source {
-    /// The text of a file. U+FFFD stands for each piece of it that is no UTF-8, and one leading byte order mark is taken off.
+    /// The text of a file. U+FFFD stands for each maximal piece of it that is no UTF-8 (Unicode 3.9), and
+    /// one leading byte order mark is taken off.
+    ///
+    /// `TooLong` where the file has more than `MOST_BYTES` bytes. It goes over the bytes once, and copies them.
     pub fn new(alloc: Global, bytes: &[u8]) -> Result<Source, SourceFault>
         ensures ok { IfOk result (λ source. source ≡ text_of bytes.now) }
-        ensures ascii { IfOk result (λ source. IsAscii bytes.now → (source.characters ≡ bytes.now) × (source.marked ≡ false)) }
-        ensures short { OnOk result (length bytes.now ≤ MOST_BYTES) }
+        ensures ascii { IfOk result (λ source. IsAscii bytes.now → IsPlain bytes.now source) }
+        ensures short { OnOk result (length bytes.now ≤ most_bytes) }
         ensures fault { IfErr result (TellsLength (length bytes.now)) }
     {
         if bytes.len() > MOST_BYTES {
@@ -127,7 +132,7 @@ impl Source {
         self.marked
     }
 
-    /// The part of the text that the span names.
+    /// The part of the text that the span names, without a copy.
     pub fn slice(&self, span: Span) -> &str
         requires order { span.start ≤ span.end }
         requires start { IsCharBoundary (text_bytes self.now) span.start }
@@ -137,9 +142,10 @@ impl Source {
         &self.text()[span.start as usize..span.end as usize]
     }
 
-    /// The place of the character that begins at this byte, or of the text's end.
+    /// The place of the character that begins at this offset, or of the text's end.
     ///
-    /// Lines end at LF, CR, U+2028 and U+2029, and CR LF is one end. It costs a binary search over the lines, and no pass over the line.
+    /// Lines end at LF, CR, U+2028 and U+2029 (ECMA-262, 12.3), and CR LF is one end. It costs a binary
+    /// search over the lines, and a count over 255 bytes at most, twice.
     pub fn place(&self, at: u32) -> Place
         requires { IsCharBoundary (text_bytes self.now) at }
         ensures { result ≡ place_at self.now.characters at }
@@ -155,9 +161,10 @@ impl Source {
         }
     }
 
-    /// How many UTF-16 code units stand before the character that begins at this byte, or before the text's end.
+    /// How many UTF-16 code units stand before the character that begins at this offset, or before the
+    /// text's end.
     ///
-    /// In ASCII it's the byte itself, and in other texts costs a count over 255 bytes at most.
+    /// In ASCII it's the offset itself, and in other texts costs a count over 255 bytes at most.
     pub fn units(&self, at: u32) -> u32
         requires { IsCharBoundary (text_bytes self.now) at }
         ensures units { result ≡ units_at self.now.characters at }
@@ -178,7 +185,7 @@ fn decode(alloc: Global, bytes: &[u8]) -> Result<String, NoMemory>
     Ok(text)
 }
 
-/// Where the lines of the text start, in bytes.
+/// The offsets at which the lines of the text start.
 fn line_starts(alloc: Global, text: &str) -> Result<Vec<u32>, NoMemory>
     requires { length text.now ≤ MOST_TEXT_BYTES }
     ensures { IfOk result (λ starts. starts.items ≡ line_starts (chars text.now)) }
@@ -207,7 +214,7 @@ fn is_line_end(c: char, following: &str) -> bool
     }
 }
 
-/// The line in which the byte at this offset is, from 0, by where the lines start.
+/// The line of this offset, from 0, by the offsets at which the lines start.
 fn line_at(starts: &[u32], at: u32) -> usize
     requires rise { IsNonDecreasing starts.now }
     requires some { 0 < length starts.now }

@@ -1,19 +1,21 @@
 use crate::span::Span;
 
-/// What a token is.
+/// What a token is (ECMA-262, 12.5 to 12.8).
 #[derive(Clone, Copy, Debug, PartialEq, Eq)]
 pub enum TokenKind {
-    /// A name, reserved or not.
+    /// A name, reserved or not (12.6).
     Word,
-    /// `#` and a name.
+    /// `#` and a name (12.6).
     Private,
-    /// A punctuator, with its place in the list of punctuators, from 0.
+    /// A punctuator, with its index in the list of punctuators (12.7), which is its code in `es_tables`.
     Punctuator(u16),
+    /// A numeric literal (12.8.3).
     Number,
-    /// A text in single or double quotes.
+    /// A string literal, in single or double quotes (12.8.4).
     Text,
+    /// A regular expression literal, with its flags (12.8.5).
     RegExp,
-    /// A template without substitutions.
+    /// A template without substitutions (12.8.6).
     Full,
     /// A template's part up to its first `${`.
     Head,
@@ -25,11 +27,12 @@ pub enum TokenKind {
     End,
 }
 
-/// A token of a text.
+/// A token of a text, without the trivia in front of it.
 #[derive(Clone, Copy, Debug, PartialEq, Eq)]
 pub struct Token {
+    /// What it is.
     pub kind: TokenKind,
-    /// In bytes; that of the end is empty.
+    /// What it takes of the text; that of the end is empty.
     pub span: Span,
     /// Whether a line ends between the token before and this one, also inside of a block comment.
     pub line_before: bool,
@@ -38,12 +41,14 @@ pub struct Token {
 /// A comment of a text, with its delimiters: `/*` to `*/`, or `//` or `#!` up to the line's end.
 #[derive(Clone, Copy, Debug, PartialEq, Eq)]
 pub struct Comment {
+    /// Whether it is `/* */`.
     pub block: bool,
-    /// In bytes.
+    /// What it takes of the text, without the line end behind it.
     pub span: Span,
 }
 
-/// How a token is read where `/` or `}` begins more than one form; the grammar fixes it.
+/// How a token is read where `/` or `}` begins more than one form; the grammar fixes it, as it does the
+/// goal symbols of ECMA-262, 12.
 #[derive(Clone, Copy, Debug, PartialEq, Eq)]
 pub enum LexMode {
     /// `/` and `}` are punctuators.
@@ -52,4 +57,15 @@ pub enum LexMode {
     RegExp,
     /// `}` goes on with a template.
     TemplateTail,
+}
+
+/// What kind of program a text is read as, as ESLint's `sourceType` names it.
+#[derive(Clone, Copy, Debug, PartialEq, Eq)]
+pub enum SourceType {
+    /// A module of ECMAScript (16.2), strict throughout.
+    Module,
+    /// A CommonJS module: the body of a function, as Node.js reads it.
+    Commonjs,
+    /// A script (16.1).
+    Script,
 }

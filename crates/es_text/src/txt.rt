@@ -22,7 +22,7 @@ impl Model for Txt {
 }
 
 impl Txt {
-    /// A copy of the text.
+    /// A copy of the text, or `NoMemory`.
     pub fn new(alloc: Global, text: &str) -> Result<Txt, NoMemory>
         ensures { IfOk result (λ txt. txt ≡ chars text.now) }
     {
@@ -30,6 +30,7 @@ impl Txt {
         Ok(Txt { text })
     }
 
+    /// Its characters, in UTF-8.
     pub fn as_str(&self) -> &str
         ensures bytes { result.now ≡ encode_utf8_all self.now }
         ensures characters { chars result.now ≡ self.now }
@@ -37,7 +38,7 @@ impl Txt {
         self.text.as_str()
     }
 
-    /// An equal text in memory of its own.
+    /// An equal text in memory of its own, or `NoMemory`.
     pub fn copy(&self, alloc: Global) -> Result<Txt, NoMemory>
         ensures { IfOk result (λ copy. copy ≡ self.now) }
     {

@@ -5,21 +5,22 @@ use crate::memory::NoMemory;
 use crate::source::MOST_TEXT_BYTES;
 use std::alloc::Global;
 
-/// From one mark to the next.
+/// How many bytes stand from one mark to the next.
 pub const BYTES_A_MARK: usize = 256;
 
-/// What counts the UTF-16 code units before a byte of a text fast.
+/// What counts the UTF-16 code units before an offset of a text fast.
 ///
 /// A unit counts where its character's UTF-8 begins, so that bytes alone tell the number.
 #[derive(Drop, Debug)]
 pub struct UnitCounts {
     /// Whether the text is ASCII: its bytes are its units, and there are no marks.
     ascii: bool,
-    /// The units that begin before byte 0, before byte 256, and so on.
+    /// The units that begin before offset 0, before offset 256, and so on.
     marks: Vec<u32>,
 }
 
 impl UnitCounts {
+    /// What is kept of this text, which is gone over once.
     pub fn of(alloc: Global, text: &str) -> Result<UnitCounts, NoMemory>
         requires { length text.now ≤ MOST_TEXT_BYTES }
         ensures { IfOk result (CountsUnits text.now) }
@@ -33,7 +34,7 @@ impl UnitCounts {
         Ok(UnitCounts { ascii, marks })
     }
 
-    /// How many units begin before the byte, in the text that was counted.
+    /// How many units begin before the offset, in the text that was counted.
     pub fn count_before(&self, text: &str, at: usize) -> usize
         requires within { at ≤ length text.now }
         requires counted { CountsUnits text.now self.now }
@@ -47,7 +48,7 @@ impl UnitCounts {
     }
 }
 
-/// How many units begin before the byte: those before the last mark, and those since.
+/// How many units begin before the offset: those before the last mark, and those since.
 fn count_by_marks(marks: &[u32], bytes: &[u8], at: usize) -> usize
     requires within { at ≤ length bytes.now }
     requires marked { AreMarks bytes.now marks.now }

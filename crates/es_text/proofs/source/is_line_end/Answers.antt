@@ -1,7 +1,7 @@
 use Rattle.std.proofs.Common.{sym, ◌∙◌, ap}
 use Rattle.std.specs.Str.{chars}
 use Rattle.es_text.specs.Texts.{ends_line}
-use Rattle.es_text.proofs.Lines.{begins-is, ends_line-return}
+use Rattle.es_text.proofs.LineEndLemmas.{begins-is, ends_line-return}
 use Rattle.es_text.proofs.source.is_line_end.Goals as goal
 
 pub returns-in-13 : goal.returns-in-13

@@ -1,6 +1,6 @@
 use Rattle.std.proofs.Common.{leb, rules}
 use Rattle.std.proofs.lemmas.List.Sorted.{IsPartitionPoint-from_clause, IsPartitionedBy-leb}
-use Rattle.es_text.proofs.Found.{IsLineAt-from_point}
+use Rattle.es_text.proofs.FoundLineLemmas.{IsLineAt-from_point}
 use Rattle.es_text.proofs.source.line_at.Goals as goal
 
 pub overflow_sub-result : goal.overflow_sub-result

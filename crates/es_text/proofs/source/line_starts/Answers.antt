@@ -1,7 +1,7 @@
 use Rattle.std.proofs.Common.{◌+◌, arith, sym, ap, ◌∙◌}
 use Rattle.std.specs.Str.{chars}
 use Rattle.es_text.specs.Texts.{ends_line}
-use Rattle.es_text.proofs.CharacterSteps.{length-step, starts-end, starts-run, starts-end_of_text, utf8-step}
+use Rattle.es_text.proofs.LineStartLemmas.{length-step, starts-end, starts-run, starts-end_of_text, utf8-step}
 use Rattle.es_text.proofs.source.line_starts.Goals as goal
 
 pub overflow_add-at : goal.overflow_add-at

@@ -1,4 +1,4 @@
-use Rattle.es_text.proofs.Marks.{begun-since}
+use Rattle.es_text.proofs.UnitMarkLemmas.{begun-since}
 use Rattle.es_text.proofs.unit_counts.count_by_marks.Goals as goal
 
 pub returns : goal.returns

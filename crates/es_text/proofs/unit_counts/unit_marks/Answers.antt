@@ -1,7 +1,7 @@
 use Rattle.std.proofs.Common.{◌≡◌, ◌+◌, ◌-◌, ◌*◌, ◌∙◌, take, drop, length, ap, arith}
 use Rattle.std.proofs.lemmas.List.{length_push}
 use Rattle.es_text.specs.UnitCounts.{units_begun_in}
-use Rattle.es_text.proofs.Marks.{begun-next, each-pushed}
+use Rattle.es_text.proofs.UnitMarkLemmas.{begun-next, each-pushed}
 use Rattle.es_text.proofs.unit_counts.unit_marks.Goals as goal
 
 pub loop-mark-preserved : goal.loop-mark-preserved

@@ -1,5 +1,5 @@
 use Rattle.std.proofs.Common.{◌∙◌, sym, ap}
-use Rattle.es_text.proofs.Decoding.{text_of-ascii}
+use Rattle.es_text.proofs.TextLemmas.{text_of-ascii}
 use Rattle.es_text.proofs.source.Source.new.Goals as goal
 
 pub returns-clause-ascii : goal.returns-clause-ascii

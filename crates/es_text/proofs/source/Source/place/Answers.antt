@@ -4,8 +4,8 @@ use Rattle.std.specs.String.{string_bytes}
 use Rattle.std.proofs.lemmas.Str.{IsUtf8-string_bytes}
 use Rattle.es_text.specs.Texts.{place_at}
 use Rattle.es_text.specs.UnitCounts.{units_begun_in}
-use Rattle.es_text.proofs.Found.{boundary-held, found-kept, rise-kept, start-reached, FoundLine}
-use Rattle.es_text.proofs.Units.{begun-le-at}
+use Rattle.es_text.proofs.FoundLineLemmas.{boundary-held, found-kept, rise-kept, start-reached, FoundLine}
+use Rattle.es_text.proofs.UnitCountLemmas.{begun-le-at}
 use Rattle.es_text.proofs.source.Source.place.Goals as goal
 
 pub line_at-line-requires-clause-rise : goal.line_at-line-requires-clause-rise

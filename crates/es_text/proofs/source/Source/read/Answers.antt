@@ -2,7 +2,7 @@ use Rattle.std.proofs.Common.{◌≡◌, ◌≢◌, ◌++◌, encode_utf8, IfOk,
 use Rattle.std.specs.String.{string_bytes}
 use Rattle.std.proofs.lemmas.Str.{IsUtf8-string_bytes}
 use Rattle.es_text.specs.Texts.{Text, byte_order_mark}
-use Rattle.es_text.proofs.Decoding.{lossy-short, text_of-marked, text_of-unmarked}
+use Rattle.es_text.proofs.TextLemmas.{lossy-short, text_of-marked, text_of-unmarked}
 use Rattle.es_text.proofs.source.Source.read.Goals as goal
 
 pub of-requires : goal.of-requires

@@ -3,8 +3,8 @@ use Rattle.std.specs.String.{string_bytes}
 use Rattle.std.proofs.lemmas.Str.{IsUtf8-string_bytes}
 use Rattle.es_text.specs.Texts.{units_at}
 use Rattle.es_text.specs.UnitCounts.{units_begun_in}
-use Rattle.es_text.proofs.Found.{boundary-held}
-use Rattle.es_text.proofs.Units.{begun-le-at, begun-units_at}
+use Rattle.es_text.proofs.FoundLineLemmas.{boundary-held}
+use Rattle.es_text.proofs.UnitCountLemmas.{begun-le-at, begun-units_at}
 use Rattle.es_text.proofs.source.Source.units.Goals as goal
 
 pub count_before-requires-clause-within : goal.count_before-requires-clause-within

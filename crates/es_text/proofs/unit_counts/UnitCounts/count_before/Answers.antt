@@ -1,4 +1,4 @@
-use Rattle.es_text.proofs.Units.{begun-ascii}
+use Rattle.es_text.proofs.UnitCountLemmas.{begun-ascii}
 use Rattle.es_text.proofs.unit_counts.UnitCounts.count_before.Goals as goal
 
 pub returns-then-self : goal.returns-then-self

@@ -5,7 +5,7 @@ use Rattle.std.specs.Char.{len_utf8}
 use Rattle.std.proofs.lemmas.Str.{chars-nil, chars_past_char, IsUtf8-past_char, length-encode}
 use Rattle.es_text.specs.LineStarts.{later_starts}
 use Rattle.es_text.specs.Texts.{ends_line}
-use Rattle.es_text.proofs.Places.{later_starts-ends, later_starts-runs}
+use Rattle.es_text.proofs.PlaceLemmas.{later_starts-ends, later_starts-runs}
 
 pub chars-empty : (s : List ℕ) → length s ≡ 0 → chars s ≡ []
 chars-empty [] none = chars-nil

@@ -10,7 +10,7 @@ use Rattle.std.proofs.lemmas.Str.{chars-append, encodes-chars, len_utf8_bounds, 
 use lib.Utf8.{encode, next}
 use Rattle.es_text.specs.Texts.{len_utf16, units_at}
 use Rattle.es_text.specs.UnitCounts.{units_begun, units_begun_in}
-use Rattle.es_text.proofs.Places.{bytes_of, bytes_of-cons, units_of}
+use Rattle.es_text.proofs.PlaceLemmas.{bytes_of, bytes_of-cons, units_of}
 
 -- a byte that continues a character begins none
 next-none : (bits : ℕ) → units_begun (next bits) ≡ 0

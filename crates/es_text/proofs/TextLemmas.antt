@@ -9,7 +9,7 @@ use Rattle.bstr.specs.Utf8.{code_of_2, code_of_3, code_of_4, Decoded, decoded, d
 use Rattle.bstr.proofs.lemmas.EncodeLemmas.{lossy_chars-utf8}
 use Rattle.bstr.proofs.lemmas.PieceLemmas.{by-shape, piece-bounds, lossy_chars-nil, lossy_chars-step}
 use Rattle.es_text.specs.Texts.{Text, byte_order_mark, is_marked, text_of, without_mark}
-use Rattle.es_text.proofs.Places.{bytes_of, bytes_of-cons}
+use Rattle.es_text.proofs.PlaceLemmas.{bytes_of, bytes_of-cons}
 
 -- a text by its parts
 abbrev as_text : List ℕ → Bool → Text

@@ -9,8 +9,8 @@ use Rattle.std.proofs.lemmas.Str.{chars-append, encodes-append, encodes-chars, l
 use Rattle.es_text.specs.LineStarts.{later_starts, line_starts, IsLineAt}
 use Rattle.es_text.specs.Texts.{Text, ends_line, place_at, text_bytes}
 use Rattle.es_text.specs.UnitCounts.{units_begun_in}
-use Rattle.es_text.proofs.Places.{bytes_of, bytes_of-append, units_of, units_of-append, line_starts-rise, later_starts-ends, later_starts-runs, place-line}
-use Rattle.es_text.proofs.Units.{begun-encodes}
+use Rattle.es_text.proofs.PlaceLemmas.{bytes_of, bytes_of-append, units_of, units_of-append, line_starts-rise, later_starts-ends, later_starts-runs, place-line}
+use Rattle.es_text.proofs.UnitCountLemmas.{begun-encodes}
 
 -- what the search over the line starts has found
 pub IsLineAt-from_point : (starts : List ℕ) (at n : ℕ) → 0 < length starts → get_or starts 0 0 ≤ at

@@ -4,7 +4,7 @@ use Rattle.std.specs.Prelude.{slice_index}
 use Rattle.std.proofs.lemmas.Bool.{cases_lt}
 use Rattle.std.proofs.lemmas.List.{get_or_append_left, get_or_push, length_push}
 use Rattle.es_text.specs.UnitCounts.{AreMarks, units_begun_in}
-use Rattle.es_text.proofs.Units.{begun-parts}
+use Rattle.es_text.proofs.UnitCountLemmas.{begun-parts}
 
 -- each of these is the mark of its byte
 abbrev pub EachMark : List ℕ → List ℕ → Type 0
