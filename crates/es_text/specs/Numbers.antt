@@ -55,19 +55,16 @@ unfoldable pub based_integer : (ℕ → Bool) → (ℕ → Bool) → List ℕ �
 based_integer letter digit cs =
     sequence (just zero_digit ∷ one_of letter ∷ digits digit ∷ optional (just letter_n) ∷ []) cs
 
+unfoldable pub nondecimal_literal : List ℕ → Option (List ℕ)
+nondecimal_literal cs =
+    longest_of
+    (based_integer is_letter_x is_hex ∷ based_integer is_letter_o is_octal ∷ based_integer is_letter_b is_binary ∷ [])
+    cs
+
 -- NumericLiteral: the longest text of these
 unfoldable pub numeric_literal : List ℕ → Option (List ℕ)
 numeric_literal cs =
-    longest_of
-    (decimal_literal
-    ∷ fraction_literal
-    ∷ big_integer
-    ∷ based_integer is_letter_x is_hex
-    ∷ based_integer is_letter_o is_octal
-    ∷ based_integer is_letter_b is_binary
-    ∷ legacy_octal
-    ∷ [])
-    cs
+    longest_of (decimal_literal ∷ fraction_literal ∷ big_integer ∷ nondecimal_literal ∷ legacy_octal ∷ []) cs
 
 -- The character behind a NumericLiteral must be no start of a name and no digit; no shorter text is tried
 abbrev pub unless_joined : List ℕ → Option (List ℕ)

@@ -1,5 +1,5 @@
 -- The characters from an offset of a text on, and the offset at which they begin.
-use Rattle.std.specs.Prelude.{ℕ, zero, suc, ◌-◌, Bool, false, ◌==◌, List, [], ◌∷◌, drop, length, Option, Some, None, if◌then◌else◌}
+use Rattle.std.specs.Prelude.{ℕ, zero, suc, ◌-◌, Bool, false, ◌==◌, List, [], ◌∷◌, drop, length, Option, if◌then◌else◌}
 use Rattle.std.specs.Option.{option_map_or}
 use Rattle.std.specs.Str.{chars, encode_utf8_all}
 
@@ -30,11 +30,6 @@ tail (c ∷ cs) = cs
 abbrev pub drop_while : (ℕ → Bool) → List ℕ → List ℕ
 drop_while class [] = []
 drop_while class (c ∷ cs) = if class c then drop_while class cs else c ∷ cs
-
--- what follows this character, if it is the first
-unfoldable pub closed_by : ℕ → List ℕ → Option (List ℕ)
-closed_by x [] = None
-closed_by x (c ∷ cs) = if c == x then Some cs else None
 
 -- What follows as many items as there are, one behind the other; an item says what follows it. The number
 -- bounds the turns, and there are as many items at most as characters

@@ -8,9 +8,10 @@ use Rattle.es_text.specs.declared.token.Token.{Token}
 use Rattle.es_text.specs.declared.token.TokenKind.{TokenKind}
 use Rattle.es_text.specs.declared.token.TokenKind.TheVariants as kind
 use Rattle.es_text.specs.declared.token.Comment.{Comment}
-use Rattle.es_text.specs.Rest.{rest, offset_of, begins_with, closed_by, many, tail, drop_while}
+use Rattle.es_text.specs.Rest.{rest, offset_of, begins_with, many, tail, drop_while}
 use Rattle.es_text.specs.Characters.{is_line_terminator, is_part, is_start, apostrophe, asterisk, backslash, backtick, carriage_return, dollar_sign, left_brace, left_bracket, line_feed, number_sign, quotation_mark, right_brace, right_bracket, slash}
 use Rattle.es_text.specs.Skipped.{Piece, skipped, behind_all, hold_line, comments_among}
+use Rattle.es_text.specs.Productions.{just}
 use Rattle.es_text.specs.Numbers.{after_number}
 use Rattle.es_text.specs.Punctuators.{longest, punctuator_code}
 
@@ -48,7 +49,7 @@ text_character quote (c ∷ cs) =
 
 -- behind the quote that begins a text: characters, and the quote
 abbrev pub after_text : ℕ → List ℕ → Option (List ℕ)
-after_text quote cs = closed_by quote (many (text_character quote) cs)
+after_text quote cs = just quote (many (text_character quote) cs)
 
 unfoldable pub string : List ℕ → Option (List ℕ)
 string [] = None
@@ -69,7 +70,7 @@ class_character (c ∷ cs) =
 
 -- behind the bracket that begins a class
 abbrev pub after_class : List ℕ → Option (List ℕ)
-after_class cs = closed_by right_bracket (many class_character cs)
+after_class cs = just right_bracket (many class_character cs)
 
 -- a character of a body, or a class
 unfoldable pub body_character : List ℕ → Option (List ℕ)
@@ -85,7 +86,7 @@ body_character (c ∷ cs) =
 unfoldable pub after_regexp : List ℕ → Option (List ℕ)
 after_regexp cs =
     if begins_with slash cs || begins_with asterisk cs then None
-    else option_map (drop_while is_part) (closed_by slash (many body_character cs))
+    else option_map (drop_while is_part) (just slash (many body_character cs))
 
 unfoldable pub regular_expression : List ℕ → Option (List ℕ)
 regular_expression [] = None
