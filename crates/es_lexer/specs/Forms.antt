@@ -1,8 +1,7 @@
--- A form that the code found, with what follows in place of the place.
-use Rattle.std.specs.Prelude.{ℕ, List}
-use Rattle.es_text.specs.Rest.{rest}
+-- What the code answers, with what follows in place of the cursor.
 use Rattle.es_text.specs.Tokens as tokens
+use Rattle.es_lexer.specs.Cursors.{rest_of}
 use Rattle.es_lexer.specs.declared.form.Form.{Form}
 
-abbrev pub seen_form : List ℕ → Form → tokens.Form
-seen_form text form = record { kind = form.kind; behind = rest text form.end }
+abbrev pub form_of : Form → tokens.Form
+form_of form = record { kind = form.kind; behind = rest_of form.end }

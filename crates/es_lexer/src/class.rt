@@ -1,6 +1,6 @@
 ghost use Rattle.std.specs.Prelude.{◌≡◌};
-ghost use Rattle.es_text.specs.Texts.{is_line_terminator};
-ghost use Rattle.es_text.specs.Characters.{is_decimal, is_start, is_part, is_white_space};
+ghost use Rattle.es_text.specs.Characters.{is_line_terminator};
+ghost use Rattle.es_text.specs.Characters.{is_decimal, is_letter_e, is_part, is_sign, is_start, is_white_space};
 ghost use Rattle.es_lexer.specs.Classes.{is_in, is_wide_space};
 
 /// A class of characters that a scan goes over.
@@ -14,6 +14,10 @@ pub enum Class {
     Octal,
     Binary,
     Hex,
+    /// `+` and `-`.
+    Sign,
+    /// `e` and `E`.
+    LetterE,
 }
 
 #[tactic(auto, unfolding(es_text::specs::Characters::is_part))]
@@ -27,6 +31,8 @@ pub fn is_in(class: Class, c: char) -> bool
         Class::Octal => matches!(c, '0'..='7'),
         Class::Binary => matches!(c, '0'..='1'),
         Class::Hex => c.is_ascii_hexdigit(),
+        Class::Sign => matches!(c, '+' | '-'),
+        Class::LetterE => matches!(c, 'e' | 'E'),
     }
 }
 

@@ -1,57 +1,113 @@
-ghost use Rattle.std.specs.Prelude.{◌≡◌, ◌≤◌, ◌+◌, ◌<◌, [], ◌∷◌, IfSome, IfNone};
-ghost use Rattle.std.specs.Bool.{OnTrue};
 ghost use Rattle.std.specs.Str.{IsCharBoundary};
-ghost use Rattle.es_text.specs.Rest.{rest, begins, begins_with, drop_while};
-ghost use Rattle.es_lexer.specs.Classes.{is_in};
-ghost use Rattle.es_lexer.specs.Cursors.{first, StepsOver};
 
 use crate::class::{Class, is_in};
 
-/// The character at this place.
-pub fn peek(text: &str, at: usize) -> Option<char>
-    requires { IsCharBoundary text.now at }
-    ensures value { result ≡ first (rest text.now at) }
-    ensures end { IfNone result (rest text.now at ≡ []) }
-    ensures steps { IfSome result (λ c. StepsOver text.now at c) }
-{
-    text[at..].chars().next()
+/// A text, and an offset in it at which a character begins or the text ends.
+#[derive(Clone, Copy)]
+pub struct Cursor<'a> {
+    pub text: &'a str,
+    pub offset: usize,
+    ghost on_boundary: { IsCharBoundary text.now offset },
 }
 
-/// Whether this ASCII character stands at this place.
-pub fn begins_with(text: &str, c: char, at: usize) -> bool
-    requires boundary { IsCharBoundary text.now at }
-    requires ascii { c < 128 }
-    ensures value { result ≡ begins_with c (rest text.now at) }
-    ensures here { OnTrue result (rest text.now at ≡ c ∷ rest text.now (at + 1)) }
-    ensures next { OnTrue result (IsCharBoundary text.now (at + 1)) }
-{
-    peek(text, at) == Some(c)
-}
+impl<'a> Cursor<'a> {
+    ghost use Rattle.std.specs.Prelude.{◌≡◌, [], drop, IfNone, IfSome, length};
+    ghost use Rattle.std.specs.Option.{option_map};
+    ghost use Rattle.es_text.specs.Productions.{just, one_of};
+    ghost use Rattle.es_text.specs.Rest.{begins, begins_with, drop_while};
+    ghost use Rattle.es_lexer.specs.Classes.{is_in};
+    ghost use Rattle.es_lexer.specs.Cursors.{GoesOn, rest_of, StandsAt, StepsOn, StepsOver};
 
-/// Whether a character of the class stands at this place.
-pub fn begins(text: &str, class: Class, at: usize) -> bool
-    requires { IsCharBoundary text.now at }
-    ensures { result ≡ begins (is_in class) (rest text.now at) }
-{
-    match peek(text, at) {
-        Some(c) => is_in(class, c),
-        None => false,
+    /// The cursor at this offset of the text.
+    pub fn at(text: &'a str, offset: usize) -> Cursor<'a>
+        requires { IsCharBoundary text.now offset }
+        ensures text { result.text.now ≡ text.now }
+        ensures offset { result.offset ≡ offset }
+    {
+        Cursor { text, offset }
     }
-}
 
-/// The first place from `at` on whose character is not of the class.
-pub fn past(text: &str, class: Class, at: usize) -> usize
-    requires { IsCharBoundary text.now at }
-    ensures place { IsCharBoundary text.now result }
-    ensures value { rest text.now result ≡ drop_while (is_in class) (rest text.now at) }
-    ensures order { at ≤ result }
-{
-    let mut end = at;
-    while let Some(c) = peek(text, end) {
-        if !is_in(class, c) {
-            break;
+    /// The text from here on.
+    pub fn rest(self) -> &'a str
+        ensures { result.now ≡ drop self.entry.offset self.entry.text.now }
+    {
+        &self.text[self.offset..]
+    }
+
+    /// The character that begins here and the cursor behind it, or `None` at the text's end.
+    pub fn next(self) -> Option<(char, Cursor<'a>)>
+        ensures step { IfSome result (λ step. StepsOver self.entry step.0 step.1) }
+        ensures end { IfNone result (rest_of self.entry ≡ []) }
+    {
+        let c = self.rest().chars().next()?;
+        Some((
+            c,
+            Cursor {
+                text: self.text,
+                offset: self.offset + c.len_utf8(),
+            },
+        ))
+    }
+
+    /// Whether this character stands here.
+    pub fn begins_with(self, x: char) -> bool
+        ensures { result ≡ begins_with x (rest_of self.entry) }
+    {
+        match self.next() {
+            Some((c, _)) => c == x,
+            None => false,
         }
-        end += c.len_utf8();
     }
-    end
+
+    /// Whether a character of the class stands here.
+    pub fn begins(self, class: Class) -> bool
+        ensures { result ≡ begins (is_in class) (rest_of self.entry) }
+    {
+        match self.next() {
+            Some((c, _)) => is_in(class, c),
+            None => false,
+        }
+    }
+
+    /// The cursor behind a character of the class, if one stands here.
+    pub fn one_of(self, class: Class) -> Option<Cursor<'a>>
+        ensures value { option_map rest_of result ≡ one_of (is_in class) (rest_of self.entry) }
+        ensures moves { IfSome result (StepsOn self.entry) }
+    {
+        let (c, next) = self.next()?;
+        if is_in(class, c) { Some(next) } else { None }
+    }
+
+    /// The cursor behind this character, if it stands here.
+    pub fn just(self, x: char) -> Option<Cursor<'a>>
+        ensures value { option_map rest_of result ≡ just x (rest_of self.entry) }
+        ensures moves { IfSome result (StepsOn self.entry) }
+    {
+        let (c, next) = self.next()?;
+        if c == x { Some(next) } else { None }
+    }
+
+    /// The cursor behind this word of ASCII, which stands here.
+    pub fn past_word(self, word: &str) -> Cursor<'a>
+        requires { StandsAt word.now self }
+        ensures value { rest_of result ≡ drop (length word.now) (rest_of self.entry) }
+        ensures moves { GoesOn self.entry result }
+    {
+        Cursor {
+            text: self.text,
+            offset: self.offset + word.len(),
+        }
+    }
+
+    /// The first cursor from here on whose character is not of the class.
+    pub fn past(self, class: Class) -> Cursor<'a>
+        ensures value { rest_of result ≡ drop_while (is_in class) (rest_of self.entry) }
+        ensures moves { GoesOn self.entry result }
+    {
+        let mut end = self;
+        while let Some(next) = end.one_of(class) {
+            end = next;
+        }
+        end
+    }
 }

@@ -1,8 +1,9 @@
 ghost use Rattle.std.specs.Prelude.{◌≡◌, ◌≤◌, ◌+◌, Some, None, IfOk, IfErr, OnErr};
 ghost use Rattle.std.specs.Str.{IsCharBoundary};
 ghost use Rattle.es_text.specs.Texts.{text_bytes};
-ghost use Rattle.es_text.specs.Tokens.{first_place, token};
+ghost use Rattle.es_text.specs.Tokens.{first_offset, token};
 
+use crate::cursor::Cursor;
 use crate::form::form_at;
 use crate::skip::skip;
 use es_text::{LexMode, Source, Span, Steps, Token};
@@ -11,13 +12,14 @@ use std::sync::ledger::Ledger;
 /// Why no token is read.
 #[derive(Clone, Copy, Debug, PartialEq, Eq)]
 pub enum LexFault {
-    /// No form of a token fits at this byte, the first one behind what is skipped.
+    /// No form of a token fits at this offset, the first one behind what is skipped.
     NoToken { at: u32 },
 }
 
-/// Skips white space, line ends and comments from the byte `at` on, and reads one token in this mode.
+/// Skips white space, line ends and comments from the offset `at` on, and reads one token in this mode
+/// (ECMA-262, 12). At the text's end it's `End`, which is empty.
 ///
-/// Takes no memory, and time in the length of what it goes over.
+/// `NoToken` where no form of a token fits. It takes no memory, and time in the length of what it goes over.
 pub fn next<L: Ledger>(
     source: &Source,
     at: u32,
@@ -30,19 +32,18 @@ pub fn next<L: Ledger>(
     ensures start { IfOk result (λ read. IsCharBoundary (text_bytes source.now) read.span.start) }
     ensures end { IfOk result (λ read. IsCharBoundary (text_bytes source.now) read.span.end) }
     ensures no_token { OnErr result (token (text_bytes source.now) at mode ≡ None) }
-    ensures place { IfErr result (λ fault. fault ≡ LexFault.NoToken (first_place (text_bytes source.now) at)) }
+    ensures offset { IfErr result (λ fault. fault ≡ LexFault.NoToken (first_offset (text_bytes source.now) at)) }
     ensures ticks { steps.new ≡ steps.old + 1 }
 {
     steps.tick();
-    let text = source.text();
-    let gap = skip(text, at as usize);
-    let start = gap.end as u32;
-    match form_at(text, gap.end, mode) {
+    let gap = skip(Cursor::at(source.text(), at as usize));
+    let start = gap.end.offset as u32;
+    match form_at(gap.end, mode) {
         Some(form) => Ok(Token {
             kind: form.kind,
             span: Span {
                 start,
-                end: form.end as u32,
+                end: form.end.offset as u32,
             },
             line_before: gap.line,
         }),

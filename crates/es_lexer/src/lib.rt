@@ -5,6 +5,7 @@ mod class;
 mod comment;
 mod cursor;
 mod form;
+mod item;
 mod lexer;
 mod literal;
 mod number;

@@ -1,207 +1,208 @@
 //! Numbers.
-ghost use Rattle.std.specs.Prelude.{◌≡◌, ◌≤◌, ◌<◌, IfSome};
+ghost use Rattle.std.specs.Prelude.{◌≡◌, ◌∷◌, IfSome, Some, true};
 ghost use Rattle.std.specs.Option.{option_map};
-ghost use Rattle.std.specs.Str.{IsCharBoundary};
-ghost use Rattle.es_text.specs.Rest.{rest};
-ghost use Rattle.es_text.specs.Numbers.{after_number, after_whole, after_zero, based, decimal, digits, exponent, fraction, further, number_text, suffix, without_sign};
+ghost use Rattle.es_text.specs.Characters.{is_decimal, letter_n, zero_digit};
+ghost use Rattle.es_text.specs.Numbers.{after_number, digits, exponent, fraction, further_digit};
+ghost use Rattle.es_text.specs.Numbers.{nondecimal_literal, numeric_literal};
+ghost use Rattle.es_text.specs.Productions.{just, optional};
+ghost use Rattle.es_text.specs.Rest.{begins, many};
 ghost use Rattle.es_lexer.specs.Classes.{is_in};
+ghost use Rattle.es_lexer.specs.Cursors.{GoesOn, rest_of};
+ghost use Rattle.es_lexer.specs.Integers.{after_integer, after_letter, after_point, fraction_and_exponent};
 
-use crate::class::{Class, is_decimal, is_in, is_start};
-use crate::cursor::{begins, begins_with, past, peek};
+use crate::class::{Class, is_decimal, is_start};
+use crate::cursor::Cursor;
+use crate::item::{Item, past_many};
 
-/// The place behind the number that begins here, with nothing joined to it.
-pub fn number_end(text: &str, at: usize) -> Option<usize>
-    requires { IsCharBoundary text.now at }
-    ensures value { option_map (rest text.now) result ≡ after_number (rest text.now at) }
-    ensures place { IfSome result (λ end. IsCharBoundary text.now end) }
-    ensures order { IfSome result (λ end. at < end) }
+/// A digit that follows a digit, with the `_` that may stand before it.
+#[derive(Clone, Copy)]
+struct FurtherDigit {
+    digit: Class,
+}
+
+impl Item for FurtherDigit {
+    ghost behind = { λ item. further_digit (is_in item.digit) };
+
+    #[tactic(auto, unfolding(es_text::specs::Numbers::further_digit))]
+    fn end<'a>(&self, start: Cursor<'a>) -> Option<Cursor<'a>> {
+        match start.just('_') {
+            Some(next) => next.one_of(self.digit),
+            None => start.one_of(self.digit),
+        }
+    }
+}
+
+/// The end of the number that begins here, with nothing joined to it.
+pub fn number_end(start: Cursor<'_>) -> Option<Cursor<'_>>
+    ensures value { option_map rest_of result ≡ after_number (rest_of start.entry) }
+    ensures moves { IfSome result (GoesOn start.entry) }
 {
-    let end = longest_end(text, at)?;
-    match peek(text, end) {
-        Some(c) if is_start(c) || is_decimal(c) => None,
+    let end = literal_end(start)?;
+    match end.next() {
+        Some((c, _)) if is_start(c) || is_decimal(c) => None,
         _ => Some(end),
     }
 }
 
-/// The place behind the longest number that begins here.
-#[tactic(auto, unfolding(es_text::specs::Numbers::number_text, es_text::specs::Numbers::decimal))]
-fn longest_end(text: &str, at: usize) -> Option<usize>
-    requires { IsCharBoundary text.now at }
-    ensures value { option_map (rest text.now) result ≡ number_text (rest text.now at) }
-    ensures place { IfSome result (λ end. IsCharBoundary text.now end) }
-    ensures order { IfSome result (λ end. at < end) }
+/// The end of the longest numeric literal that begins here.
+fn literal_end(start: Cursor<'_>) -> Option<Cursor<'_>>
+    ensures value { option_map rest_of result ≡ numeric_literal (rest_of start.entry) }
+    ensures moves { IfSome result (GoesOn start.entry) }
 {
-    let c = peek(text, at)?;
-    let next = at + c.len_utf8();
-    if c == '.' {
-        let end = past_digits(text, Class::Decimal, next)?;
-        return Some(past_exponent(text, end));
-    }
-    if !is_decimal(c) {
-        return None;
-    }
-    if c != '0' {
-        let end = past_further(text, Class::Decimal, next);
-        return Some(past_whole(text, end));
-    }
-    match based_end(text, next) {
-        Some(end) => Some(end),
-        None => Some(past_zero(text, next)),
-    }
-}
-
-/// The place behind a number with a base, behind its 0.
-#[tactic(auto, unfolding(es_text::specs::Numbers::based))]
-fn based_end(text: &str, at: usize) -> Option<usize>
-    requires { IsCharBoundary text.now at }
-    ensures value { option_map (rest text.now) result ≡ based (rest text.now at) }
-    ensures place { IfSome result (λ end. IsCharBoundary text.now end) }
-    ensures order { IfSome result (λ end. at < end) }
-{
-    match peek(text, at) {
-        Some('x' | 'X') => whole_end(text, Class::Hex, at + 1),
-        Some('o' | 'O') => whole_end(text, Class::Octal, at + 1),
-        Some('b' | 'B') => whole_end(text, Class::Binary, at + 1),
+    let (c, next) = start.next()?;
+    match c {
+        '.' => point_end(next),
+        '0' => Some(zero_end(next)),
+        '1'..='9' => Some(whole_end(past_further(next, Class::Decimal))),
         _ => None,
     }
 }
 
-/// The place behind digits and a suffix.
-fn whole_end(text: &str, digit: Class, at: usize) -> Option<usize>
-    requires { IsCharBoundary text.now at }
-    ensures value { option_map (rest text.now) result ≡ option_map suffix (digits (is_in digit) (rest text.now at)) }
-    ensures place { IfSome result (λ end. IsCharBoundary text.now end) }
-    ensures order { IfSome result (λ end. at < end) }
+/// The end of a numeric literal that begins with a point, from behind that point.
+fn point_end(start: Cursor<'_>) -> Option<Cursor<'_>>
+    ensures value { option_map rest_of result ≡ after_point (rest_of start.entry) }
+    ensures moves { IfSome result (GoesOn start.entry) }
 {
-    let end = past_digits(text, digit, at)?;
-    Some(past_suffix(text, end))
+    let end = digits_end(start, Class::Decimal)?;
+    Some(past_exponent(end))
 }
 
-/// The place behind a decimal number that begins with 0, behind that 0.
-#[tactic(auto, unfolding(es_text::specs::Numbers::decimal, es_text::specs::Numbers::after_zero))]
-fn past_zero(text: &str, at: usize) -> usize
-    requires { IsCharBoundary text.now at }
-    ensures value { rest text.now result ≡ decimal 48 (rest text.now at) }
-    ensures place { IsCharBoundary text.now result }
-    ensures order { at ≤ result }
+/// The end of a numeric literal that begins with 0, from behind that 0.
+fn zero_end(start: Cursor<'_>) -> Cursor<'_>
+    ensures value { Some (rest_of result) ≡ numeric_literal (zero_digit ∷ rest_of start.entry) }
+    ensures moves { GoesOn start.entry result }
 {
-    if !begins(text, Class::Decimal, at) {
-        return past_whole(text, at);
+    if start.begins(Class::Decimal) {
+        return leading_zero_end(start);
     }
-    let octal = past(text, Class::Octal, at);
-    if !begins(text, Class::Decimal, octal) {
+    match nondecimal_end(start) {
+        Some(end) => end,
+        None => whole_end(start),
+    }
+}
+
+/// The end of a numeric literal that begins with 0 and a digit, from behind that 0.
+fn leading_zero_end(start: Cursor<'_>) -> Cursor<'_>
+    requires { begins is_decimal (rest_of start) ≡ true }
+    ensures value { Some (rest_of result) ≡ numeric_literal (zero_digit ∷ rest_of start.entry) }
+    ensures moves { GoesOn start.entry result }
+{
+    let octal = start.past(Class::Octal);
+    if !octal.begins(Class::Decimal) {
         return octal;
     }
-    let point = past(text, Class::Decimal, at);
-    past_exponent(text, past_fraction(text, point))
+    past_parts(start.past(Class::Decimal))
 }
 
-/// The place behind what follows the digits before a point: a suffix, or a fraction and an exponent.
-#[tactic(auto, unfolding(es_text::specs::Numbers::after_whole))]
-fn past_whole(text: &str, at: usize) -> usize
-    requires { IsCharBoundary text.now at }
-    ensures value { rest text.now result ≡ after_whole (rest text.now at) }
-    ensures place { IsCharBoundary text.now result }
-    ensures order { at ≤ result }
+/// The end of a numeric literal with a base, from behind its 0.
+fn nondecimal_end(start: Cursor<'_>) -> Option<Cursor<'_>>
+    ensures value { option_map rest_of result ≡ nondecimal_literal (zero_digit ∷ rest_of start.entry) }
+    ensures moves { IfSome result (GoesOn start.entry) }
 {
-    if begins_with(text, 'n', at) {
-        return at + 1;
-    }
-    past_exponent(text, past_fraction(text, at))
-}
-
-fn past_suffix(text: &str, at: usize) -> usize
-    requires { IsCharBoundary text.now at }
-    ensures value { rest text.now result ≡ suffix (rest text.now at) }
-    ensures place { IsCharBoundary text.now result }
-    ensures order { at ≤ result }
-{
-    if begins_with(text, 'n', at) {
-        at + 1
-    } else {
-        at
+    let (c, next) = start.next()?;
+    match c {
+        'x' | 'X' => based_end(next, Class::Hex),
+        'o' | 'O' => based_end(next, Class::Octal),
+        'b' | 'B' => based_end(next, Class::Binary),
+        _ => None,
     }
 }
 
-/// The place behind a fraction, if one stands here.
-#[tactic(auto, unfolding(es_text::specs::Numbers::fraction))]
-fn past_fraction(text: &str, at: usize) -> usize
-    requires { IsCharBoundary text.now at }
-    ensures value { rest text.now result ≡ fraction (rest text.now at) }
-    ensures place { IsCharBoundary text.now result }
-    ensures order { at ≤ result }
+/// The end of a numeric literal with a base, from behind the letter of the base.
+fn based_end(start: Cursor<'_>, digit: Class) -> Option<Cursor<'_>>
+    ensures value { option_map rest_of result ≡ after_letter (is_in digit) (rest_of start.entry) }
+    ensures moves { IfSome result (GoesOn start.entry) }
 {
-    if !begins_with(text, '.', at) {
-        return at;
-    }
-    match past_digits(text, Class::Decimal, at + 1) {
+    let end = digits_end(start, digit)?;
+    Some(past_suffix(end))
+}
+
+/// The cursor behind what follows the digits before a point: a suffix, or a fraction and an exponent.
+#[tactic(auto, using(crate::proofs::NumberLemmas::integer_big))]
+fn whole_end(start: Cursor<'_>) -> Cursor<'_>
+    ensures value { Some (rest_of result) ≡ after_integer (rest_of start.entry) }
+    ensures moves { GoesOn start.entry result }
+{
+    match start.just('n') {
         Some(end) => end,
-        None => at + 1,
+        None => past_parts(start),
     }
 }
 
-/// The place behind an exponent, if one stands here.
+/// The cursor behind a fraction and an exponent, where they stand here.
+fn past_parts(start: Cursor<'_>) -> Cursor<'_>
+    ensures value { Some (rest_of result) ≡ fraction_and_exponent (rest_of start.entry) }
+    ensures moves { GoesOn start.entry result }
+{
+    match fraction_end(start) {
+        Some(point) => past_exponent(point),
+        None => past_exponent(start),
+    }
+}
+
+/// The cursor behind an exponent, where one stands here.
+fn past_exponent(start: Cursor<'_>) -> Cursor<'_>
+    ensures value { Some (rest_of result) ≡ optional exponent (rest_of start.entry) }
+    ensures moves { GoesOn start.entry result }
+{
+    match exponent_end(start) {
+        Some(end) => end,
+        None => start,
+    }
+}
+
+/// The cursor behind a suffix, where one stands here.
+fn past_suffix(start: Cursor<'_>) -> Cursor<'_>
+    ensures value { Some (rest_of result) ≡ optional (just letter_n) (rest_of start.entry) }
+    ensures moves { GoesOn start.entry result }
+{
+    match start.just('n') {
+        Some(end) => end,
+        None => start,
+    }
+}
+
+/// The cursor behind a fraction.
+#[tactic(auto, unfolding(es_text::specs::Numbers::fraction))]
+fn fraction_end(start: Cursor<'_>) -> Option<Cursor<'_>>
+    ensures value { option_map rest_of result ≡ fraction (rest_of start.entry) }
+    ensures moves { IfSome result (GoesOn start.entry) }
+{
+    let point = start.just('.')?;
+    match digits_end(point, Class::Decimal) {
+        Some(end) => Some(end),
+        None => Some(point),
+    }
+}
+
+/// The cursor behind an exponent.
 #[tactic(auto, unfolding(es_text::specs::Numbers::exponent))]
-fn past_exponent(text: &str, at: usize) -> usize
-    requires { IsCharBoundary text.now at }
-    ensures value { rest text.now result ≡ exponent (rest text.now at) }
-    ensures place { IsCharBoundary text.now result }
-    ensures order { at ≤ result }
+fn exponent_end(start: Cursor<'_>) -> Option<Cursor<'_>>
+    ensures value { option_map rest_of result ≡ exponent (rest_of start.entry) }
+    ensures moves { IfSome result (GoesOn start.entry) }
 {
-    match peek(text, at) {
-        Some('e' | 'E') => {
-            let sign = past_sign(text, at + 1);
-            match past_digits(text, Class::Decimal, sign) {
-                Some(end) => end,
-                None => at,
-            }
-        }
-        _ => at,
+    let letter = start.one_of(Class::LetterE)?;
+    match letter.one_of(Class::Sign) {
+        Some(sign) => digits_end(sign, Class::Decimal),
+        None => digits_end(letter, Class::Decimal),
     }
 }
 
-fn past_sign(text: &str, at: usize) -> usize
-    requires { IsCharBoundary text.now at }
-    ensures value { rest text.now result ≡ without_sign (rest text.now at) }
-    ensures place { IsCharBoundary text.now result }
-    ensures order { at ≤ result }
+/// The cursor behind digits, of which there is one at least.
+#[tactic(auto, unfolding(es_text::specs::Numbers::digits))]
+fn digits_end(start: Cursor<'_>, digit: Class) -> Option<Cursor<'_>>
+    ensures value { option_map rest_of result ≡ digits (is_in digit) (rest_of start.entry) }
+    ensures moves { IfSome result (GoesOn start.entry) }
 {
-    match peek(text, at) {
-        Some('+' | '-') => at + 1,
-        _ => at,
-    }
+    let first = start.one_of(digit)?;
+    Some(past_further(first, digit))
 }
 
-/// The place behind digits, of which there is one at least.
-fn past_digits(text: &str, digit: Class, at: usize) -> Option<usize>
-    requires { IsCharBoundary text.now at }
-    ensures value { option_map (rest text.now) result ≡ digits (is_in digit) (rest text.now at) }
-    ensures place { IfSome result (λ end. IsCharBoundary text.now end) }
-    ensures order { IfSome result (λ end. at < end) }
+/// The cursor behind the further digits, from behind a digit.
+#[tactic(auto, using(crate::proofs::ProductionLemmas::further_digit_shrinks))]
+fn past_further(start: Cursor<'_>, digit: Class) -> Cursor<'_>
+    ensures value { rest_of result ≡ many (further_digit (is_in digit)) (rest_of start.entry) }
+    ensures moves { GoesOn start.entry result }
 {
-    let c = peek(text, at)?;
-    if is_in(digit, c) {
-        Some(past_further(text, digit, at + c.len_utf8()))
-    } else {
-        None
-    }
-}
-
-/// The place behind the further digits, behind a digit.
-#[tactic(auto, unfolding(es_text::specs::Numbers::further))]
-fn past_further(text: &str, digit: Class, at: usize) -> usize
-    requires { IsCharBoundary text.now at }
-    ensures value { rest text.now result ≡ further (is_in digit) (rest text.now at) }
-    ensures place { IsCharBoundary text.now result }
-    ensures order { at ≤ result }
-{
-    let mut end = at;
-    while let Some(c) = peek(text, end) {
-        let next = end + c.len_utf8();
-        if !(is_in(digit, c) || c == '_' && begins(text, digit, next)) {
-            break;
-        }
-        end = next;
-    }
-    end
+    past_many(&FurtherDigit { digit }, start)
 }

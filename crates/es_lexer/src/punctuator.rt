@@ -1,13 +1,14 @@
-ghost use Rattle.std.specs.Prelude.{◌≡◌, ◌≤◌, drop, IfSome, IfNone};
+ghost use Rattle.std.specs.Prelude.{◌≡◌, ◌==◌, ◌&&◌, IfSome, IfNone};
 ghost use Rattle.std.specs.Option.{option_map};
-ghost use Rattle.std.specs.Str.{IsCharBoundary};
-ghost use Rattle.es_text.specs.Rest.{rest};
+ghost use Rattle.es_text.specs.Characters.{is_decimal};
+ghost use Rattle.es_text.specs.Rest.{begins};
 ghost use Rattle.es_text.specs.Tokens.{punctuator};
-ghost use Rattle.es_lexer.specs.Forms.{seen_form};
+ghost use Rattle.es_lexer.specs.Cursors.{GoesOn, rest_of};
+ghost use Rattle.es_lexer.specs.Forms.{form_of};
 ghost use Rattle.es_lexer.specs.Longest.{HasNone, IsLongest};
 
 use crate::class::Class;
-use crate::cursor::begins;
+use crate::cursor::Cursor;
 use crate::form::Form;
 use es_tables::{Row, punctuators};
 use es_text::TokenKind;
@@ -19,41 +20,39 @@ const QUESTION_MARK: u16 = 37;
 const OPTIONAL_CHAIN: u16 = 38;
 
 /// The longest punctuator that begins here.
-pub fn punctuator(text: &str, at: usize) -> Option<Form>
-    requires { IsCharBoundary text.now at }
-    ensures value { option_map (seen_form text.now) result ≡ punctuator (rest text.now at) }
-    ensures place { IfSome result (λ form. IsCharBoundary text.now form.end) }
-    ensures order { IfSome result (λ form. at ≤ form.end) }
+pub fn punctuator(start: Cursor<'_>) -> Option<Form<'_>>
+    ensures value { option_map form_of result ≡ punctuator (rest_of start.entry) }
+    ensures moves { IfSome result (λ form. GoesOn start.entry form.end) }
 {
-    let Some(row) = row_at(text, at) else {
-        return None;
-    };
-    let end = at + row.text.len();
-    let form = Form {
+    let row = row_at(start.rest())?;
+    let end = start.past_word(row.text);
+    if is_chain_before_digit(row.code, end) {
+        return Some(Form {
+            kind: TokenKind::Punctuator(QUESTION_MARK),
+            end: start.past_word("?"),
+        });
+    }
+    Some(Form {
         kind: TokenKind::Punctuator(row.code),
         end,
-    };
-    if row.code != OPTIONAL_CHAIN {
-        return Some(form);
-    }
-    if begins(text, Class::Decimal, end) {
-        Some(Form {
-            kind: TokenKind::Punctuator(QUESTION_MARK),
-            end: at + 1,
-        })
-    } else {
-        Some(form)
-    }
+    })
 }
 
-/// The row of the longest punctuator with which the text goes on.
-fn row_at(text: &str, at: usize) -> Option<Row>
-    requires { IsCharBoundary text.now at }
-    ensures longest { IfSome result (λ row. IsLongest (drop at text.now) row.code row.text.now) }
-    ensures none { IfNone result (HasNone (drop at text.now)) }
+/// Whether `?.` is no punctuator here, since a digit follows it: `a?.5:b` has `?` and `.5`.
+fn is_chain_before_digit(code: u16, end: Cursor<'_>) -> bool
+    ensures { result ≡ ((code == OPTIONAL_CHAIN) && begins is_decimal (rest_of end.entry)) }
+{
+    code == OPTIONAL_CHAIN && end.begins(Class::Decimal)
+}
+
+/// The row of the longest punctuator with which the text begins. The table finds it by a binary search and
+/// a look at the rows before that begin with the same character.
+fn row_at(text: &str) -> Option<Row>
+    ensures longest { IfSome result (λ row. IsLongest text.now row.code row.text.now) }
+    ensures none { IfNone result (HasNone text.now) }
 {
     let table = punctuators();
-    match table.longest(text[at..].as_bytes()) {
+    match table.longest(text.as_bytes()) {
         Some(row) => Some(*row),
         None => None,
     }

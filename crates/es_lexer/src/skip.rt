@@ -1,13 +1,12 @@
 //! White space, line ends and comments.
-ghost use Rattle.std.specs.Prelude.{◌≡◌, ◌≤◌, ◌<◌, ◌==◌, false, IfSome};
+ghost use Rattle.std.specs.Prelude.{◌≡◌, ◌==◌, false, IfSome};
 ghost use Rattle.std.specs.Option.{option_map};
-ghost use Rattle.std.specs.Str.{IsCharBoundary};
-ghost use Rattle.es_text.specs.Rest.{rest};
-ghost use Rattle.es_text.specs.Skipped.{after_block, after_line, after_slash, behind_all, hold_line, piece, skipped};
-ghost use Rattle.es_lexer.specs.Pieces.{seen};
+ghost use Rattle.es_text.specs.Skipped.{after_block, after_line, after_slash, behind_all, hold_line, piece};
+ghost use Rattle.es_lexer.specs.Cursors.{GoesOn, rest_of, StepsOn};
+ghost use Rattle.es_lexer.specs.Pieces.{piece_of, skipped_from};
 
 use crate::class::{Class, is_line_terminator, is_white_space};
-use crate::cursor::{past, peek};
+use crate::cursor::Cursor;
 
 #[derive(Clone, Copy)]
 pub enum PieceKind {
@@ -18,24 +17,21 @@ pub enum PieceKind {
 
 /// One white space, line end or comment.
 #[derive(Clone, Copy)]
-pub struct Piece {
+pub struct Piece<'a> {
     pub kind: PieceKind,
     /// Whether it is or holds a line end.
     pub line: bool,
-    /// The place behind it.
-    pub end: usize,
+    /// The cursor behind it.
+    pub end: Cursor<'a>,
 }
 
-/// What is skipped at this place, one piece of it.
+/// What is skipped here, one piece of it.
 #[tactic(auto, unfolding(es_text::specs::Skipped::piece))]
-pub fn piece_at(text: &str, at: usize) -> Option<Piece>
-    requires { IsCharBoundary text.now at }
-    ensures value { option_map (seen text.now) result ≡ piece (at == 0) (rest text.now at) }
-    ensures place { IfSome result (λ piece. IsCharBoundary text.now piece.end) }
-    ensures order { IfSome result (λ piece. at < piece.end) }
+pub fn piece_at(start: Cursor<'_>) -> Option<Piece<'_>>
+    ensures value { option_map piece_of result ≡ piece (start.entry.offset == 0) (rest_of start.entry) }
+    ensures moves { IfSome result (λ piece. StepsOn start.entry piece.end) }
 {
-    let c = peek(text, at)?;
-    let next = at + c.len_utf8();
+    let (c, next) = start.next()?;
     let line = is_line_terminator(c);
     if is_white_space(c) || line {
         return Some(Piece {
@@ -45,88 +41,83 @@ pub fn piece_at(text: &str, at: usize) -> Option<Piece>
         });
     }
     if c == '/' {
-        return slash_comment(text, next);
+        return slash_comment(next);
     }
-    if at == 0 && c == '#' && peek(text, next) == Some('!') {
-        return Some(line_comment(text, next + 1));
+    if start.offset == 0 && c == '#' {
+        let mark = next.just('!')?;
+        return Some(line_comment(mark));
     }
     None
 }
 
-/// The comment whose first slash stands before this place.
+/// The comment whose first slash stands before this cursor.
 #[tactic(auto, unfolding(es_text::specs::Skipped::after_slash))]
-fn slash_comment(text: &str, at: usize) -> Option<Piece>
-    requires { IsCharBoundary text.now at }
-    ensures value { option_map (seen text.now) result ≡ after_slash (rest text.now at) }
-    ensures place { IfSome result (λ piece. IsCharBoundary text.now piece.end) }
-    ensures order { IfSome result (λ piece. at < piece.end) }
+fn slash_comment(start: Cursor<'_>) -> Option<Piece<'_>>
+    ensures value { option_map piece_of result ≡ after_slash (rest_of start.entry) }
+    ensures moves { IfSome result (λ piece. GoesOn start.entry piece.end) }
 {
-    let c = peek(text, at)?;
+    let (c, next) = start.next()?;
     match c {
-        '/' => Some(line_comment(text, at + 1)),
-        '*' => block_comment(text, at + 1),
+        '/' => Some(line_comment(next)),
+        '*' => block_comment(next),
         _ => None,
     }
 }
 
 /// The comment of one line, behind its `//` or `#!`.
-fn line_comment(text: &str, at: usize) -> Piece
-    requires { IsCharBoundary text.now at }
-    ensures value { seen text.now result ≡ after_line (rest text.now at) }
-    ensures place { IsCharBoundary text.now result.end }
-    ensures order { at ≤ result.end }
+fn line_comment(start: Cursor<'_>) -> Piece<'_>
+    ensures value { piece_of result ≡ after_line (rest_of start.entry) }
+    ensures moves { GoesOn start.entry result.end }
 {
     Piece {
         kind: PieceKind::Comment { block: false },
         line: false,
-        end: past(text, Class::InLine, at),
+        end: start.past(Class::InLine),
     }
 }
 
 /// The block comment, behind its `/*`.
 #[tactic(auto, unfolding(es_text::specs::Skipped::after_block))]
-fn block_comment(text: &str, at: usize) -> Option<Piece>
-    requires { IsCharBoundary text.now at }
-    ensures value { option_map (seen text.now) result ≡ after_block false (rest text.now at) }
-    ensures place { IfSome result (λ piece. IsCharBoundary text.now piece.end) }
-    ensures order { IfSome result (λ piece. at < piece.end) }
+fn block_comment(start: Cursor<'_>) -> Option<Piece<'_>>
+    ensures value { option_map piece_of result ≡ after_block false (rest_of start.entry) }
+    ensures moves { IfSome result (λ piece. GoesOn start.entry piece.end) }
 {
-    let mut end = at;
+    let mut at = start;
     let mut line = false;
-    while let Some(c) = peek(text, end) {
-        end += c.len_utf8();
-        if c == '*' && peek(text, end) == Some('/') {
+    while let Some((c, next)) = at.next() {
+        if c == '*'
+            && let Some(end) = next.just('/')
+        {
             return Some(Piece {
                 kind: PieceKind::Comment { block: true },
                 line,
-                end: end + 1,
+                end,
             });
         }
         line = line || is_line_terminator(c);
+        at = next;
     }
     None
 }
 
-/// What was skipped from a place on.
+/// What was skipped from a cursor on.
 #[derive(Clone, Copy)]
-pub struct Gap {
+pub struct Gap<'a> {
     /// Whether a line ends in it.
     pub line: bool,
-    /// The place behind it.
-    pub end: usize,
+    /// The cursor behind it.
+    pub end: Cursor<'a>,
 }
 
-/// Skips all white space, line ends and comments from this place on.
-pub fn skip(text: &str, at: usize) -> Gap
-    requires { IsCharBoundary text.now at }
-    ensures line { result.line ≡ hold_line (skipped (at == 0) (rest text.now at)) }
-    ensures behind { rest text.now result.end ≡ behind_all (rest text.now at) (skipped (at == 0) (rest text.now at)) }
-    ensures place { IsCharBoundary text.now result.end }
-    ensures order { at ≤ result.end }
+/// Skips all white space, line ends and comments from here on.
+pub fn skip(start: Cursor<'_>) -> Gap<'_>
+    ensures line { result.line ≡ hold_line (skipped_from start.entry) }
+    ensures behind { rest_of result.end ≡ behind_all (rest_of start.entry) (skipped_from start.entry) }
+    ensures moves { GoesOn start.entry result.end }
 {
-    let mut end = at;
+    let mut end = start;
     let mut line = false;
-    while let Some(piece) = piece_at(text, end) {
+    while let Some(piece) = piece_at(end) {
         line |= piece.line;
         end = piece.end;
     }

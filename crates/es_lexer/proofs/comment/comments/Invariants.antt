@@ -5,6 +5,6 @@ use Rattle.es_lexer.proofs.comment.comments.Given as goal
 
 abbrev pub invariant-loop-token : goal.invariant-loop-token
 invariant-loop-token l = record {
-  place : IsCharBoundary l.text l.at;
-  items : l.comments.items ++ comments_between l.text l.at (drop l.token-index l.tokens) ≡ comments_between l.text 0 l.tokens;
+  place : IsCharBoundary l.text l.offset;
+  items : l.comments.items ++ comments_between l.text l.offset (drop l.token-index l.tokens) ≡ comments_between l.text 0 l.tokens;
 }

@@ -1,17 +1,12 @@
-use Rattle.std.proofs.Common.{◌≡◌, ◌≤◌, ◌-◌, ◌++◌, length}
-use Rattle.std.specs.Prelude.{◌==◌}
-use Rattle.std.specs.Str.{IsCharBoundary}
-use Rattle.es_text.specs.Rest.{rest}
-use Rattle.es_text.specs.Skipped.{comments_among, skipped}
+use Rattle.std.proofs.Common.{◌≡◌, ◌-◌, ◌++◌, length}
+use Rattle.es_lexer.specs.Pieces.{comments_from}
 use Rattle.es_lexer.proofs.comment.gather.Given as goal
 
 abbrev pub invariant-loop-piece : goal.invariant-loop-piece
 invariant-loop-piece l = record {
-  place : IsCharBoundary l.text l.end;
-  order : l.at ≤ l.end;
-  items : l.comments.items ++ comments_among l.text (rest l.text l.end) (skipped (l.end == 0) (rest l.text l.end))
-      ≡ l.fn.comments.items ++ comments_among l.text (rest l.text l.at) (skipped (l.at == 0) (rest l.text l.at));
+  here : l.end.text.now ≡ l.text;
+  items : l.comments.items ++ comments_from l.text l.end.offset ≡ l.fn.comments.items ++ comments_from l.text l.offset;
 }
 
 abbrev pub decreases-loop-piece : goal.decreases-loop-piece
-decreases-loop-piece l = length l.text - l.end
+decreases-loop-piece l = length l.end.text.now - l.end.offset

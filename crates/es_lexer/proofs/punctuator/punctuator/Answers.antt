@@ -1,38 +1,30 @@
-use Rattle.std.proofs.Common.{◌∙◌, sym}
-use Rattle.es_lexer.proofs.Punctuators.{none_at, other_at, chain_at, question_at, end_at, question_end}
+use Rattle.std.proofs.Common.{◌∙◌, ap, sym}
+use Rattle.std.specs.Option.{option_map}
+use Rattle.es_lexer.specs.Cursors.{rest_of}
+use Rattle.es_lexer.specs.Forms.{form_of}
+use Rattle.es_lexer.proofs.PunctuatorLemmas.{none_at, other_at, question_at, question_stands, stands}
 use Rattle.es_lexer.proofs.punctuator.punctuator.Goals as goal
 
-pub begins-requires : goal.begins-requires
-begins-requires c =
-    end_at c.args.text.now c.in-Some.row.text.now c.args.at c.in-Some.row.code c.utf8.text c.requires c.in-Some.ensures.longest
+pub returns-in_err-row-clause-value : goal.returns-in_err-row-clause-value
+returns-in_err-row-clause-value c =
+    ap (option_map form_of) c.from_residual.ensures
+    ∙ none_at c.rest.result.now c.args.start c.rest.ensures c.rest.utf8 c.in_err-row.ensures.none
 
-pub returns-in_default-clause-value : goal.returns-in_default-clause-value
-returns-in_default-clause-value c = none_at c.args.text.now c.args.at c.utf8.text c.requires c.in_default.ensures.none
+pub past_word-end-requires : goal.past_word-end-requires
+past_word-end-requires c =
+    stands c.rest.result.now c.in_ok-row.row.text.now c.in_ok-row.row.code c.args.start c.rest.ensures c.rest.utf8 c.in_ok-row.ensures.longest
 
-pub returns-then-row-ne-OPTIONAL_CHAIN-clause-value : goal.returns-then-row-ne-OPTIONAL_CHAIN-clause-value
-returns-then-row-ne-OPTIONAL_CHAIN-clause-value c =
-    other_at c.args.text.now c.in-Some.row.text.now c.args.at c.in-Some.row.code c.utf8.text c.requires c.in-Some.ensures.longest
-    c.if-row-ne-OPTIONAL_CHAIN.true
+pub past_word-requires : goal.past_word-requires
+past_word-requires c =
+    question_stands c.rest.result.now c.in_ok-row.row.text.now (rest_of c.past_word-end.result) c.in_ok-row.row.code c.args.start c.rest.ensures c.rest.utf8 c.in_ok-row.ensures.longest
+    (sym c.is_chain_before_digit.ensures ∙ c.if-is_chain_before_digit.true)
 
-pub returns-then-row-ne-OPTIONAL_CHAIN-clause-place : goal.returns-then-row-ne-OPTIONAL_CHAIN-clause-place
-returns-then-row-ne-OPTIONAL_CHAIN-clause-place c =
-    end_at c.args.text.now c.in-Some.row.text.now c.args.at c.in-Some.row.code c.utf8.text c.requires c.in-Some.ensures.longest
+pub returns-then-is_chain_before_digit-clause-value : goal.returns-then-is_chain_before_digit-clause-value
+returns-then-is_chain_before_digit-clause-value c =
+    question_at c.rest.result.now c.in_ok-row.row.text.now _ _ c.in_ok-row.row.code c.args.start c.rest.ensures c.rest.utf8 c.in_ok-row.ensures.longest
+    c.past_word-end.ensures.value c.past_word.ensures.value (sym c.is_chain_before_digit.ensures ∙ c.if-is_chain_before_digit.true)
 
-pub returns-then-begins-clause-value : goal.returns-then-begins-clause-value
-returns-then-begins-clause-value c =
-    question_at c.args.text.now c.in-Some.row.text.now c.args.at c.in-Some.row.code c.utf8.text c.requires c.in-Some.ensures.longest
-    c.if-row-ne-OPTIONAL_CHAIN.false (sym c.begins.ensures ∙ c.if-begins.true)
-
-pub returns-then-begins-clause-place : goal.returns-then-begins-clause-place
-returns-then-begins-clause-place c =
-    question_end c.args.text.now c.in-Some.row.text.now c.args.at c.in-Some.row.code c.utf8.text c.requires c.in-Some.ensures.longest
-    c.if-row-ne-OPTIONAL_CHAIN.false
-
-pub returns-else-begins-clause-value : goal.returns-else-begins-clause-value
-returns-else-begins-clause-value c =
-    chain_at c.args.text.now c.in-Some.row.text.now c.args.at c.in-Some.row.code c.utf8.text c.requires c.in-Some.ensures.longest
-    c.if-row-ne-OPTIONAL_CHAIN.false (sym c.begins.ensures ∙ c.if-begins.false)
-
-pub returns-else-begins-clause-place : goal.returns-else-begins-clause-place
-returns-else-begins-clause-place c =
-    end_at c.args.text.now c.in-Some.row.text.now c.args.at c.in-Some.row.code c.utf8.text c.requires c.in-Some.ensures.longest
+pub returns-clause-value : goal.returns-clause-value
+returns-clause-value c =
+    other_at c.rest.result.now c.in_ok-row.row.text.now _ c.in_ok-row.row.code c.args.start c.rest.ensures c.rest.utf8 c.in_ok-row.ensures.longest
+    c.past_word-end.ensures.value (sym c.is_chain_before_digit.ensures ∙ c.if-is_chain_before_digit.false)

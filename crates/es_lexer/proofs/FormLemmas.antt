@@ -1,17 +1,15 @@
 -- Which form begins with a character.
-use Rattle.std.proofs.Common.{◌≡◌, ℕ, ◌+◌, ⊎_elim, arith, List, [], ◌∷◌, true, false, refl, ap, ◌∙◌, sym}
+use Rattle.std.proofs.Common.{◌≡◌, ℕ, ⊎_elim, List, [], ◌∷◌, true, false, refl, ap, ◌∙◌, sym}
 use Rattle.std.specs.Prelude.{Option, Some, None, ◌⊎◌, ◌==◌}
 use Rattle.std.specs.Option.{option_or}
 use Rattle.es_text.specs.declared.token.LexMode.{LexMode}
 use Rattle.es_text.specs.declared.token.LexMode.TheVariants.{Division, RegExp, TemplateTail}
 use Rattle.es_text.specs.declared.token.TokenKind.TheVariants as kind
-use Rattle.es_text.specs.Rest.{drop_while, rest}
-use Rattle.es_lexer.specs.Cursors.{StepsOver}
-use Rattle.std.specs.Char.{len_utf8}
-use Rattle.std.proofs.lemmas.Bool.Decides.{nat_tests}
+use Rattle.es_text.specs.Rest.{drop_while}
 use Rattle.es_text.specs.Characters.{is_start, is_part}
-use Rattle.es_text.specs.Numbers.{after_number, number_text}
-use Rattle.es_text.specs.Punctuators.{longest_from}
+use Rattle.es_text.specs.Numbers.{after_number}
+use Rattle.es_text.specs.Punctuators.{longest}
+use Rattle.es_lexer.proofs.NumberLemmas.{at_other}
 use Rattle.es_text.specs.Tokens.{Form, after_template, after_text, by_mode, form, name, of_kind, punctuator, string, template}
 
 or_none : (f : Option Form) → option_or f None ≡ f
@@ -26,19 +24,19 @@ by_no_mode TemplateTail c cs slash brace = rw brace refl
 
 -- no punctuator begins with these
 hash_none : (cs : List ℕ) → punctuator (35 ∷ cs) ≡ None
-unfolding punctuator longest_from
+unfolding punctuator longest
 hash_none cs = refl
 
 double_none : (cs : List ℕ) → punctuator (34 ∷ cs) ≡ None
-unfolding punctuator longest_from
+unfolding punctuator longest
 double_none cs = refl
 
 single_none : (cs : List ℕ) → punctuator (39 ∷ cs) ≡ None
-unfolding punctuator longest_from
+unfolding punctuator longest
 single_none cs = refl
 
 backtick_none : (cs : List ℕ) → punctuator (96 ∷ cs) ≡ None
-unfolding punctuator longest_from
+unfolding punctuator longest
 backtick_none cs = refl
 
 at_name : (m : LexMode) (c : ℕ) (cs : List ℕ) → is_start c ≡ true → form m (c ∷ cs) ≡ Some (record { kind = kind.Word; behind = drop_while is_part cs })
@@ -46,37 +44,34 @@ unfolding form
 at_name m c cs starts = rw starts refl
 
 at_hash : (m : LexMode) (cs : List ℕ) → is_start 35 ≡ false → form m (35 ∷ cs) ≡ of_kind kind.Private (name cs)
-unfolding form number_text string template
-at_hash m cs other = rw (other, by_no_mode m 35 cs refl refl, hash_none cs) (or_none (of_kind kind.Private (name cs)))
+unfolding form string template
+at_hash m cs other = rw (other, at_other 35 cs refl refl, by_no_mode m 35 cs refl refl, hash_none cs) (or_none (of_kind kind.Private (name cs)))
 
 at_double : (m : LexMode) (cs : List ℕ) → is_start 34 ≡ false → form m (34 ∷ cs) ≡ of_kind kind.Text (after_text 34 cs)
-unfolding form number_text string template
-at_double m cs other = rw (other, by_no_mode m 34 cs refl refl, double_none cs) (or_none (of_kind kind.Text (after_text 34 cs)))
+unfolding form string template
+at_double m cs other = rw (other, at_other 34 cs refl refl, by_no_mode m 34 cs refl refl, double_none cs) (or_none (of_kind kind.Text (after_text 34 cs)))
 
 at_single : (m : LexMode) (cs : List ℕ) → is_start 39 ≡ false → form m (39 ∷ cs) ≡ of_kind kind.Text (after_text 39 cs)
-unfolding form number_text string template
-at_single m cs other = rw (other, by_no_mode m 39 cs refl refl, single_none cs) (or_none (of_kind kind.Text (after_text 39 cs)))
+unfolding form string template
+at_single m cs other = rw (other, at_other 39 cs refl refl, by_no_mode m 39 cs refl refl, single_none cs) (or_none (of_kind kind.Text (after_text 39 cs)))
 
 at_backtick : (m : LexMode) (cs : List ℕ) → is_start 96 ≡ false → form m (96 ∷ cs) ≡ after_template kind.Full kind.Head cs
-unfolding form number_text string template
-at_backtick m cs other = rw (other, by_no_mode m 96 cs refl refl, backtick_none cs) (or_none (after_template kind.Full kind.Head cs))
+unfolding form string template
+at_backtick m cs other = rw (other, at_other 96 cs refl refl, by_no_mode m 96 cs refl refl, backtick_none cs) (or_none (after_template kind.Full kind.Head cs))
 
 at_slash : (m : LexMode) (cs : List ℕ) → is_start 47 ≡ false → form m (47 ∷ cs) ≡ by_mode m (47 ∷ cs)
-unfolding form number_text string template
-at_slash m cs other = rw other refl
+unfolding form string template
+at_slash m cs other = rw (other, at_other 47 cs refl refl) refl
 
 at_brace : (m : LexMode) (cs : List ℕ) → is_start 125 ≡ false → form m (125 ∷ cs) ≡ by_mode m (125 ∷ cs)
-unfolding form number_text string template
-at_brace m cs other = rw other refl
+unfolding form string template
+at_brace m cs other = rw (other, at_other 125 cs refl refl) refl
 
 nothing_at_end : (m : LexMode) → Some (record { kind = kind.End; behind = [] }) ≡ form m []
 unfolding form
 nothing_at_end m = refl
 
--- the same of the characters from a place on, the first of which is c
-pub stands : (text : List ℕ) (at next c : ℕ) → StepsOver text at c → next ≡ at + len_utf8 c → rest text at ≡ c ∷ rest text next
-stands text at next c over is = over.here ∙ ap (λ n. c ∷ rest text n) (sym is)
-
+-- the same of the characters from a cursor on
 pub form_end : (m : LexMode) (all : List ℕ) → all ≡ [] → Some (record { kind = kind.End; behind = all }) ≡ form m all
 form_end m all is = rw is (nothing_at_end m)
 
@@ -113,15 +108,12 @@ form_brace m c cs all is same other =
     let whole : all ≡ 125 ∷ cs = is ∙ ap (λ d. d ∷ cs) same in
     rw whole (sym (at_brace m cs (ap is_start (sym same) ∙ other)))
 
-differs : (c d : ℕ) → (c ≡ d → ⊥) → (c == d) ≡ false
-differs c d other = grind (arith, nat_tests)
-
 pub form_other : (m : LexMode) (c : ℕ) (cs all : List ℕ) → all ≡ c ∷ cs → is_start c ≡ false
-    → (c ≡ 35 → ⊥) → (c ≡ 34 → ⊥) → (c ≡ 39 → ⊥) → (c ≡ 96 → ⊥) → (c ≡ 47 → ⊥) → (c ≡ 125 → ⊥)
+    → (c == 35) ≡ false → (c == 34) ≡ false → (c == 39) ≡ false → (c == 96) ≡ false → (c == 47) ≡ false → (c == 125) ≡ false
     → option_or (of_kind kind.Number (after_number all)) (punctuator all) ≡ form m all
 unfolding form string template
 form_other m c cs all is other hash double single backtick slash brace =
-    rw (is, other, differs c 35 hash, differs c 34 double, differs c 39 single, differs c 96 backtick, by_no_mode m c cs (differs c 47 slash) (differs c 125 brace)) refl
+    rw (is, other, hash, double, single, backtick, by_no_mode m c cs slash brace) refl
 
 pub form_quote : (m : LexMode) (c : ℕ) (cs all : List ℕ) → all ≡ c ∷ cs → (c ≡ 34) ⊎ (c ≡ 39) → is_start c ≡ false → of_kind kind.Text (after_text c cs) ≡ form m all
 form_quote m c cs all is quote other =

@@ -3,9 +3,8 @@ use Rattle.std.proofs.Common.{◌≡◌, ◌<◌, ◌≤◌, ℕ, zero, suc, Lis
 use Rattle.std.specs.Prelude.{◌||◌, ◌&&◌, ◌==◌, if◌then◌else◌, Option, Some, None}
 use Rattle.std.specs.Option.{option_map_or}
 use Rattle.std.proofs.lemmas.Bool.Decides.{nat_tests}
-use Rattle.es_text.specs.Texts.{is_line_terminator}
-use Rattle.es_text.specs.Rest.{rest, begins_with, tail, drop_while}
-use Rattle.es_text.specs.Characters.{is_in_line, is_white_space}
+use Rattle.es_text.specs.Rest.{begins_with, tail, drop_while}
+use Rattle.es_text.specs.Characters.{is_in_line, is_line_terminator, is_white_space}
 use Rattle.es_text.specs.Skipped.{Piece, after_block, after_line, after_slash, behind_all, blank, comment, hold_line, piece, pieces, skipped}
 
 Shorter : ℕ → Option Piece → Type 0
@@ -97,33 +96,32 @@ skipped_none first (c ∷ cs) e = ap (λ o. option_map_or (λ p. p ∷ pieces (l
 not_first : (next at : ℕ) → at < next → (next == 0) ≡ false
 not_first next at h = grind (arith, nat_tests)
 
--- what is skipped from a place on, by its first piece, which ends at the place `next`
-pub turn : (text : List ℕ) (at next : ℕ) (p : Piece) → at < next → p.behind ≡ rest text next → Some p ≡ piece (at == 0) (rest text at)
-    → skipped (at == 0) (rest text at) ≡ p ∷ skipped (next == 0) (rest text next)
-turn text at next p later behind is =
-    skipped_more (at == 0) (rest text at) p (sym is)
-    ∙ ap (λ cs. p ∷ skipped false cs) behind
-    ∙ ap (λ b. p ∷ skipped b (rest text next)) (sym (not_first next at later))
+-- what is skipped from an offset on, by its first piece, which ends at the offset `next`
+pub turn : (at next : ℕ) (cs ds : List ℕ) (p : Piece) → at < next → p.behind ≡ ds → Some p ≡ piece (at == 0) cs
+    → skipped (at == 0) cs ≡ p ∷ skipped (next == 0) ds
+turn at next cs ds p later behind is =
+    skipped_more (at == 0) cs p (sym is)
+    ∙ ap (λ xs. p ∷ skipped false xs) behind
+    ∙ ap (λ b. p ∷ skipped b ds) (sym (not_first next at later))
 
 or_or : (a b x : Bool) → ((a || b) || x) ≡ (a || (b || x))
 or_or true b x = refl
 or_or false b x = refl
 
-pub turn_line : (text : List ℕ) (at next : ℕ) (p : Piece) (line line' all : Bool) → at < next → p.behind ≡ rest text next → Some p ≡ piece (at == 0) (rest text at)
-    → line' ≡ (line || p.line) → (line || hold_line (skipped (at == 0) (rest text at))) ≡ all
-    → (line' || hold_line (skipped (next == 0) (rest text next))) ≡ all
-turn_line text at next p line line' all later behind is moved known =
-    ap (λ b. b || hold_line (skipped (next == 0) (rest text next))) moved
-    ∙ or_or line p.line (hold_line (skipped (next == 0) (rest text next)))
-    ∙ ap (λ ps. line || hold_line ps) (sym (turn text at next p later behind is))
+pub turn_line : (at next : ℕ) (cs ds : List ℕ) (p : Piece) (line line' all : Bool) → at < next → p.behind ≡ ds → Some p ≡ piece (at == 0) cs
+    → line' ≡ (line || p.line) → (line || hold_line (skipped (at == 0) cs)) ≡ all
+    → (line' || hold_line (skipped (next == 0) ds)) ≡ all
+turn_line at next cs ds p line line' all later behind is moved known =
+    ap (λ b. b || hold_line (skipped (next == 0) ds)) moved
+    ∙ or_or line p.line (hold_line (skipped (next == 0) ds))
+    ∙ ap (λ ps. line || hold_line ps) (sym (turn at next cs ds p later behind is))
     ∙ known
 
-pub turn_behind : (text : List ℕ) (at next : ℕ) (p : Piece) (all : List ℕ) → at < next → p.behind ≡ rest text next → Some p ≡ piece (at == 0) (rest text at)
-    → behind_all (rest text at) (skipped (at == 0) (rest text at)) ≡ all
-    → behind_all (rest text next) (skipped (next == 0) (rest text next)) ≡ all
-turn_behind text at next p all later behind is known =
-    ap (λ cs. behind_all cs (skipped (next == 0) (rest text next))) (sym behind)
-    ∙ ap (λ ps. behind_all (rest text at) ps) (sym (turn text at next p later behind is))
+pub turn_behind : (at next : ℕ) (cs ds all : List ℕ) (p : Piece) → at < next → p.behind ≡ ds → Some p ≡ piece (at == 0) cs
+    → behind_all cs (skipped (at == 0) cs) ≡ all → behind_all ds (skipped (next == 0) ds) ≡ all
+turn_behind at next cs ds all p later behind is known =
+    ap (λ xs. behind_all xs (skipped (next == 0) ds)) (sym behind)
+    ∙ ap (λ ps. behind_all cs ps) (sym (turn at next cs ds p later behind is))
     ∙ known
 
 pub stop_line : (first : Bool) (cs : List ℕ) (line : Bool) → None ≡ piece first cs → (line || hold_line (skipped first cs)) ≡ line

@@ -1,14 +1,13 @@
 -- As many items as there are: the count of the characters is always enough, where each item has one.
-use Rattle.std.proofs.Common.{◌≡◌, ◌<◌, ◌≤◌, ℕ, zero, suc, List, [], ◌∷◌, length, Bool, true, false, refl, sym, ◌∙◌, ap, subst, arith}
+use Rattle.std.proofs.Common.{◌≡◌, ◌≤◌, ℕ, zero, suc, List, [], ◌∷◌, length, Bool, true, false, refl, sym, ◌∙◌, ap, subst, arith}
 use Rattle.std.specs.Prelude.{◌||◌, ◌&&◌, ◌==◌, if◌then◌else◌, Option, Some, None}
 use Rattle.std.specs.Option.{option_map_or}
-use Rattle.es_text.specs.Texts.{is_line_terminator}
-use Rattle.es_lexer.proofs.Skips.{cond_le, tail_le}
-use Rattle.es_text.specs.Rest.{begins_with, closed_by, many, many_in, tail}
+use Rattle.es_text.specs.Characters.{is_line_terminator}
+use Rattle.es_lexer.specs.Items.{Shrinks}
+use Rattle.es_lexer.proofs.SkippedLemmas.{cond_le, tail_le}
+use Rattle.es_text.specs.Productions.{just}
+use Rattle.es_text.specs.Rest.{begins_with, many, many_in, tail}
 use Rattle.es_text.specs.Tokens.{after_class, body_character, class_character, escaped, escaped_in_line, template_character, text_character}
-
-abbrev pub Shrinks : (List ℕ → Option (List ℕ)) → Type 0
-Shrinks item = (cs ds : List ℕ) → item cs ≡ Some ds → length ds < length cs
 
 same_map : (o : Option (List ℕ)) (f g : List ℕ → List ℕ) (d : List ℕ) → ((ds : List ℕ) → o ≡ Some ds → f ds ≡ g ds) → option_map_or f o d ≡ option_map_or g o d
 same_map None f g d h = refl
@@ -46,7 +45,7 @@ map_le : (o : Option (List ℕ)) (f : List ℕ → List ℕ) (cs : List ℕ) →
 map_le None f cs h = omega arith
 map_le (Some ds) f cs h = h ds refl
 
-many_in_le : (item : List ℕ → Option (List ℕ)) → Shrinks item → (n : ℕ) (cs : List ℕ) → length (many_in n item cs) ≤ length cs
+pub many_in_le : (item : List ℕ → Option (List ℕ)) → Shrinks item → (n : ℕ) (cs : List ℕ) → length (many_in n item cs) ≤ length cs
 unfolding many_in
 many_in_le item shrinks zero cs = omega arith
 many_in_le item shrinks (suc n) cs = map_le (item cs) (many_in n item) cs (λ ds is. omega (arith, many_in_le item shrinks n ds, shrinks cs ds is))
@@ -81,8 +80,8 @@ unfolding Within escaped_in_line
 escaped_in_line_within [] = tt
 escaped_in_line_within (c ∷ cs) = within-if (length (c ∷ cs)) (is_line_terminator c) None (Some cs) tt (omega arith)
 
-closed_within : (x : ℕ) (cs : List ℕ) → Within (length cs) (closed_by x cs)
-unfolding Within closed_by
+closed_within : (x : ℕ) (cs : List ℕ) → Within (length cs) (just x cs)
+unfolding Within
 closed_within x [] = tt
 closed_within x (c ∷ cs) = within-if (length (c ∷ cs)) (c == x) (Some cs) None (omega arith) tt
 
