@@ -1,5 +1,5 @@
 -- The longest word of a list that passes a test, and the index of a word.
-use Rattle.std.proofs.Common.{◌≡◌, ℕ, zero, suc, ◌<◌, ◌≤◌, Bool, true, false, not, ◌&&◌, List, [], ◌∷◌, length, nat_lt, refl, sym, ap, subst, ◌∙◌, arith, ⊎_elim}
+use Rattle.std.proofs.Common.{◌≡◌, ℕ, zero, suc, ◌+◌, ◌<◌, ◌≤◌, Bool, true, false, not, ◌&&◌, List, [], ◌∷◌, length, nat_lt, refl, sym, ap, subst, ◌∙◌, arith, ⊎_elim}
 use Rattle.std.specs.Prelude.{Option, Some, None, slice_get}
 use Rattle.std.specs.List.{filter, list_any, position_or_len}
 use Rattle.std.specs.Str.{bytes_eq}
@@ -110,12 +110,13 @@ index_is (v ∷ words) zero t all at =
     let is : bytes_eq t v ≡ true = (bytes_eq-Decides t v).1 same in
     rw is refl
 index_is (v ∷ words) (suc k) t all at =
-    let later = index_is words k t (and_parts _ _ all).1 at in
+    let later : position_or_len (bytes_eq t) words ≡ k = index_is words k t (and_parts _ _ all).1 at in
     ⊎_elim
     (λ (is : bytes_eq t v ≡ true).
     let same : v ≡ t = sym ((bytes_eq-Decides t v).0 is) in
     absurd (once_at v words k (and_parts _ _ all).0 (subst (At words k) (sym same) at)))
-    (λ (other : bytes_eq t v ≡ false). rw (other, later) (omega arith))
+    (λ (other : bytes_eq t v ≡ false).
+    let step : 1 + position_or_len (bytes_eq t) words ≡ suc k = omega (arith, later) in rw other step)
     (cases_Bool (bytes_eq t v))
 
 pub once : (words : List (List ℕ)) (j k : ℕ) (w : List ℕ) → are_distinct words ≡ true → At words j w → At words k w → j ≡ k

@@ -17,4 +17,5 @@ is_in LetterE c = is_letter_e c
 -- white space beyond ASCII
 abbrev pub is_wide_space : ℕ → Bool
 is_wide_space c =
-    c == 0xA0 || c == 0xFEFF || c == 0x1680 || (nat_le 0x2000 c && nat_le c 0x200A) || c == 0x202F || c == 0x205F || c == 0x3000
+    c == 0xA0 || c == 0xFEFF || c == 0x1680 || (nat_le 0x2000 c && nat_le c 0x200A)
+    || c == 0x202F || c == 0x205F || c == 0x3000

@@ -10,7 +10,8 @@ IsWord code text = slice_get punctuator_words code ≡ Some text
 pub record IsLongest (bytes : List ℕ) (code : ℕ) (text : List ℕ) : Type 0 where
   pub at : IsWord code text
   pub begins : starts_with nat_eq bytes text ≡ true
-  pub most : (j : ℕ) (w : List ℕ) → IsWord j w → starts_with nat_eq bytes w ≡ true → length w ≤ length text
+  pub most : (j : ℕ) (w : List ℕ) → IsWord j w → starts_with nat_eq bytes w ≡ true
+      → length w ≤ length text
 
 -- no punctuator begins the bytes
 abbrev pub HasNone : List ℕ → Type 0

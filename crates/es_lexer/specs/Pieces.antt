@@ -1,5 +1,5 @@
 -- What the code answers, with what follows in place of the cursor.
-use Rattle.std.specs.Prelude.{ℕ, List}
+use Rattle.std.specs.Prelude.{ℕ, ◌==◌, List, Option}
 use Rattle.es_text.specs.declared.token.Comment.{Comment}
 use Rattle.es_text.specs.Rest.{rest}
 use Rattle.es_text.specs.Skipped as spec
@@ -17,9 +17,16 @@ kind_of (kind.Comment block) = spec.comment block
 abbrev pub piece_of : Piece → spec.Piece
 piece_of piece = record { kind = kind_of piece.kind; line = piece.line; behind = rest_of piece.end }
 
--- what is skipped from the cursor on
+-- the piece that is skipped at the cursor; only the text's beginning has offset 0
+abbrev pub piece_from : Cursor → Option spec.Piece
+piece_from cursor = spec.piece (cursor.offset == 0) (rest_of cursor)
+
+-- what is skipped from the cursor on, and what follows it
 abbrev pub skipped_from : Cursor → List spec.Piece
 skipped_from cursor = skipped_at cursor.text.now cursor.offset
+
+abbrev pub behind_skipped_from : Cursor → List ℕ
+behind_skipped_from cursor = spec.behind_all (rest_of cursor) (skipped_from cursor)
 
 -- the comments among what is skipped from this offset of a text on
 abbrev pub comments_from : List ℕ → ℕ → List Comment

@@ -12,11 +12,13 @@ use std::alloc::Global;
 
 /// The comments before the first of these tokens of the text, and between them, in order.
 ///
-/// The tokens are those that `next` reads one behind the other from offset 0 on. It takes time in the length
-/// of the text up to the last of them, and memory for the comments alone, or answers `NoMemory`.
+/// The tokens are those that `next` reads one behind the other from offset 0 on. It takes time in the
+/// number of the tokens and the length of what stands between them, and memory for the comments, or
+/// answers `NoMemory`.
 pub fn comments(alloc: Global, source: &Source, tokens: &[Token]) -> Result<Vec<Comment>, NoMemory>
     requires { All (λ token. IsCharBoundary (text_bytes source.now) token.span.end) tokens.now }
-    ensures { IfOk result (λ comments. comments.items ≡ comments_between (text_bytes source.now) 0 tokens.now) }
+    ensures { IfOk result (λ comments.
+        comments.items ≡ comments_between (text_bytes source.now) 0 tokens.now) }
 {
     let text = source.text();
     let mut comments = Vec::new(alloc);
@@ -32,7 +34,8 @@ pub fn comments(alloc: Global, source: &Source, tokens: &[Token]) -> Result<Vec<
 fn gather(text: &str, offset: usize, comments: &mut Vec<Comment>) -> Result<(), NoMemory>
     requires boundary { IsCharBoundary text.now offset }
     requires short { length text.now ≤ MOST_TEXT_BYTES }
-    ensures { OnOk result (comments.new.items ≡ comments.old.items ++ comments_from text.now offset) }
+    ensures { OnOk result (
+        comments.new.items ≡ comments.old.items ++ comments_from text.now offset) }
 {
     let mut end = Cursor::at(text, offset);
     while let Some(piece) = piece_at(end) {

@@ -1,11 +1,9 @@
-ghost use Rattle.std.specs.Prelude.{◌≡◌, ◌∷◌, codes, IfSome};
-ghost use Rattle.std.specs.Option.{option_map, option_or};
-ghost use Rattle.es_text.specs.declared.token.TokenKind.TheVariants as kinds;
+ghost use Rattle.std.specs.Prelude.{◌≡◌, IfSome};
+ghost use Rattle.std.specs.Option.{option_map};
 ghost use Rattle.es_text.specs.Characters.{right_brace, slash};
-ghost use Rattle.es_text.specs.Numbers.{after_number};
-ghost use Rattle.es_text.specs.Tokens.{by_mode, form, name, of_kind, punctuator};
+ghost use Rattle.es_text.specs.Tokens.{by_mode, form, name, of_kind};
 ghost use Rattle.es_lexer.specs.Cursors.{GoesOn, rest_of, StepsOver};
-ghost use Rattle.es_lexer.specs.Forms.{form_of};
+ghost use Rattle.es_lexer.specs.Forms.{form_of, number_or_punctuator};
 
 use crate::class::{Class, is_start};
 use crate::cursor::Cursor;
@@ -98,7 +96,7 @@ fn brace_form<'a>(start: Cursor<'a>, next: Cursor<'a>, mode: LexMode) -> Option<
 
 /// A number, or a punctuator where no number stands.
 fn number_or_punctuator(start: Cursor<'_>) -> Option<Form<'_>>
-    ensures value { option_map form_of result ≡ option_or (of_kind kinds.Number (after_number (rest_of start.entry))) (punctuator (rest_of start.entry)) }
+    ensures value { option_map form_of result ≡ number_or_punctuator (rest_of start.entry) }
     ensures moves { IfSome result (λ form. GoesOn start.entry form.end) }
 {
     match number_end(start) {

@@ -16,10 +16,11 @@ pub enum LexFault {
     NoToken { at: u32 },
 }
 
-/// Skips white space, line ends and comments from the offset `at` on, and reads one token in this mode
-/// (ECMA-262, 12). At the text's end it's `End`, which is empty.
+/// Skips white space, line ends and comments from the offset `at` on, and reads one token in this
+/// mode (ECMA-262, 12). At the text's end it's `End`, which is empty.
 ///
-/// `NoToken` where no form of a token fits. It takes no memory, and time in the length of what it goes over.
+/// `NoToken` where no form of a token fits. It takes no memory, and time in the length of what it
+/// goes over.
 pub fn next<L: Ledger>(
     source: &Source,
     at: u32,
@@ -28,11 +29,13 @@ pub fn next<L: Ledger>(
 ) -> Result<Token, LexFault>
     requires { IsCharBoundary (text_bytes source.now) at }
     ensures token { IfOk result (λ read. token (text_bytes source.now) at mode ≡ Some read) }
-    ensures order { IfOk result (λ read. (at ≤ read.span.start) × (read.span.start ≤ read.span.end)) }
+    ensures order { IfOk result (λ read.
+        (at ≤ read.span.start) × (read.span.start ≤ read.span.end)) }
     ensures start { IfOk result (λ read. IsCharBoundary (text_bytes source.now) read.span.start) }
     ensures end { IfOk result (λ read. IsCharBoundary (text_bytes source.now) read.span.end) }
     ensures no_token { OnErr result (token (text_bytes source.now) at mode ≡ None) }
-    ensures offset { IfErr result (λ fault. fault ≡ LexFault.NoToken (first_offset (text_bytes source.now) at)) }
+    ensures offset { IfErr result (λ fault.
+        fault ≡ LexFault.NoToken (first_offset (text_bytes source.now) at)) }
     ensures ticks { steps.new ≡ steps.old + 1 }
 {
     steps.tick();

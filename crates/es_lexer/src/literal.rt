@@ -156,8 +156,8 @@ fn class_end(start: Cursor<'_>) -> Option<Cursor<'_>>
     past_many(&ClassCharacter, start).just(']')
 }
 
-/// A template or a part of it, from behind the character that begins it: `closed` where a backtick ends it,
-/// and `opened` where `${` does.
+/// A template or a part of it, from behind the character that begins it: `closed` where a backtick
+/// ends it, and `opened` where `${` does.
 #[tactic(auto, using(crate::proofs::ItemLemmas::template_character_shrinks))]
 pub fn template_end(start: Cursor<'_>, closed: TokenKind, opened: TokenKind) -> Option<Form<'_>>
     ensures value { option_map form_of result ≡ after_template closed opened (rest_of start.entry) }

@@ -96,7 +96,8 @@ fn leading_zero_end(start: Cursor<'_>) -> Cursor<'_>
 
 /// The end of a numeric literal with a base, from behind its 0.
 fn nondecimal_end(start: Cursor<'_>) -> Option<Cursor<'_>>
-    ensures value { option_map rest_of result ≡ nondecimal_literal (zero_digit ∷ rest_of start.entry) }
+    ensures value { option_map rest_of result
+        ≡ nondecimal_literal (zero_digit ∷ rest_of start.entry) }
     ensures moves { IfSome result (GoesOn start.entry) }
 {
     let (c, next) = start.next()?;
@@ -117,7 +118,8 @@ fn based_end(start: Cursor<'_>, digit: Class) -> Option<Cursor<'_>>
     Some(past_suffix(end))
 }
 
-/// The cursor behind what follows the digits before a point: a suffix, or a fraction and an exponent.
+/// The cursor behind what follows the digits in front of a point: a suffix, or a fraction and an
+/// exponent.
 #[tactic(auto, using(crate::proofs::NumberLemmas::integer_big))]
 fn whole_end(start: Cursor<'_>) -> Cursor<'_>
     ensures value { Some (rest_of result) ≡ after_integer (rest_of start.entry) }

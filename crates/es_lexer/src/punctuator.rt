@@ -45,8 +45,8 @@ fn is_chain_before_digit(code: u16, end: Cursor<'_>) -> bool
     code == OPTIONAL_CHAIN && end.begins(Class::Decimal)
 }
 
-/// The row of the longest punctuator with which the text begins. The table finds it by a binary search and
-/// a look at the rows before that begin with the same character.
+/// The row of the longest punctuator with which the text begins. The table looks for it among the
+/// rows that begin with the text's first character, to which a binary search leads.
 fn row_at(text: &str) -> Option<Row>
     ensures longest { IfSome result (λ row. IsLongest text.now row.code row.text.now) }
     ensures none { IfNone result (HasNone text.now) }

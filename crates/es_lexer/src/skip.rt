@@ -1,9 +1,9 @@
 //! White space, line ends and comments.
-ghost use Rattle.std.specs.Prelude.{◌≡◌, ◌==◌, false, IfSome};
+ghost use Rattle.std.specs.Prelude.{◌≡◌, false, IfSome};
 ghost use Rattle.std.specs.Option.{option_map};
-ghost use Rattle.es_text.specs.Skipped.{after_block, after_line, after_slash, behind_all, hold_line, piece};
+ghost use Rattle.es_text.specs.Skipped.{after_block, after_line, after_slash, hold_line};
 ghost use Rattle.es_lexer.specs.Cursors.{GoesOn, rest_of, StepsOn};
-ghost use Rattle.es_lexer.specs.Pieces.{piece_of, skipped_from};
+ghost use Rattle.es_lexer.specs.Pieces.{behind_skipped_from, piece_from, piece_of, skipped_from};
 
 use crate::class::{Class, is_line_terminator, is_white_space};
 use crate::cursor::Cursor;
@@ -28,7 +28,7 @@ pub struct Piece<'a> {
 /// What is skipped here, one piece of it.
 #[tactic(auto, unfolding(es_text::specs::Skipped::piece))]
 pub fn piece_at(start: Cursor<'_>) -> Option<Piece<'_>>
-    ensures value { option_map piece_of result ≡ piece (start.entry.offset == 0) (rest_of start.entry) }
+    ensures value { option_map piece_of result ≡ piece_from start.entry }
     ensures moves { IfSome result (λ piece. StepsOn start.entry piece.end) }
 {
     let (c, next) = start.next()?;
@@ -112,7 +112,7 @@ pub struct Gap<'a> {
 /// Skips all white space, line ends and comments from here on.
 pub fn skip(start: Cursor<'_>) -> Gap<'_>
     ensures line { result.line ≡ hold_line (skipped_from start.entry) }
-    ensures behind { rest_of result.end ≡ behind_all (rest_of start.entry) (skipped_from start.entry) }
+    ensures behind { rest_of result.end ≡ behind_skipped_from start.entry }
     ensures moves { GoesOn start.entry result.end }
 {
     let mut end = start;

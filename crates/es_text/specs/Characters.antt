@@ -66,7 +66,8 @@ right_brace = 125
 unfoldable pub is_white_space : ℕ → Bool
 is_white_space c =
     (c == 9 || c == 11 || c == 12 || c == 0xFEFF)
-    || (c == 32 || c == 0xA0 || c == 0x1680 || (nat_le 0x2000 c && nat_le c 0x200A) || c == 0x202F || c == 0x205F || c == 0x3000)
+    || (c == 32 || c == 0xA0 || c == 0x1680 || (nat_le 0x2000 c && nat_le c 0x200A)
+    || c == 0x202F || c == 0x205F || c == 0x3000)
 
 -- 12.3: LF, CR, U+2028 and U+2029
 abbrev pub is_line_terminator : ℕ → Bool

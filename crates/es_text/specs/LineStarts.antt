@@ -3,11 +3,14 @@ use Rattle.std.specs.Prelude.{ℕ, ◌+◌, ◌<◌, ◌≤◌, slice_index, len
 use Rattle.std.specs.Char.{len_utf8}
 use Rattle.es_text.specs.Texts.{ends_line}
 
--- the starts of the lines that start behind a character of these, the first of which stands at this offset
+-- the starts of the lines that start behind a character of these, the first of which stands at this
+-- offset
 abbrev pub later_starts : ℕ → List ℕ → List ℕ
 later_starts at [] = []
 later_starts at (c ∷ cs) =
-    if ends_line c cs then (at + len_utf8 c) ∷ later_starts (at + len_utf8 c) cs else later_starts (at + len_utf8 c) cs
+    if ends_line c cs
+    then (at + len_utf8 c) ∷ later_starts (at + len_utf8 c) cs
+    else later_starts (at + len_utf8 c) cs
 
 abbrev pub line_starts : List ℕ → List ℕ
 line_starts characters = 0 ∷ later_starts 0 characters

@@ -32,7 +32,13 @@ legacy_octal cs = sequence (just zero_digit ∷ one_of is_octal ∷ repeated (on
 -- NonOctalDecimalIntegerLiteral :: `0` and decimal digits, `8` or `9` among them
 unfoldable pub non_octal_integer : List ℕ → Option (List ℕ)
 non_octal_integer cs =
-    sequence (just zero_digit ∷ repeated (one_of is_octal) ∷ one_of is_eight_or_nine ∷ repeated (one_of is_decimal) ∷ []) cs
+    sequence
+    (just zero_digit
+    ∷ repeated (one_of is_octal)
+    ∷ one_of is_eight_or_nine
+    ∷ repeated (one_of is_decimal)
+    ∷ [])
+    cs
 
 -- DecimalIntegerLiteral
 unfoldable pub decimal_integer : List ℕ → Option (List ℕ)
@@ -48,9 +54,11 @@ fraction_literal cs = sequence (just full_stop ∷ digits is_decimal ∷ optiona
 
 -- DecimalBigIntegerLiteral :: `0`, or NonZeroDigit and further digits; BigIntLiteralSuffix, `n`
 unfoldable pub big_integer : List ℕ → Option (List ℕ)
-big_integer cs = sequence (longest_of (just zero_digit ∷ nonzero_integer ∷ []) ∷ just letter_n ∷ []) cs
+big_integer cs =
+    sequence (longest_of (just zero_digit ∷ nonzero_integer ∷ []) ∷ just letter_n ∷ []) cs
 
--- NonDecimalIntegerLiteral :: `0`, the letter of the base, digits of that base; BigIntLiteralSuffix or nothing
+-- NonDecimalIntegerLiteral :: `0`, the letter of the base, digits of that base; BigIntLiteralSuffix or
+-- nothing
 unfoldable pub based_integer : (ℕ → Bool) → (ℕ → Bool) → List ℕ → Option (List ℕ)
 based_integer letter digit cs =
     sequence (just zero_digit ∷ one_of letter ∷ digits digit ∷ optional (just letter_n) ∷ []) cs
@@ -58,15 +66,21 @@ based_integer letter digit cs =
 unfoldable pub nondecimal_literal : List ℕ → Option (List ℕ)
 nondecimal_literal cs =
     longest_of
-    (based_integer is_letter_x is_hex ∷ based_integer is_letter_o is_octal ∷ based_integer is_letter_b is_binary ∷ [])
+    (based_integer is_letter_x is_hex
+    ∷ based_integer is_letter_o is_octal
+    ∷ based_integer is_letter_b is_binary
+    ∷ [])
     cs
 
 -- NumericLiteral: the longest text of these
 unfoldable pub numeric_literal : List ℕ → Option (List ℕ)
 numeric_literal cs =
-    longest_of (decimal_literal ∷ fraction_literal ∷ big_integer ∷ nondecimal_literal ∷ legacy_octal ∷ []) cs
+    longest_of
+    (decimal_literal ∷ fraction_literal ∷ big_integer ∷ nondecimal_literal ∷ legacy_octal ∷ [])
+    cs
 
--- The character behind a NumericLiteral must be no start of a name and no digit; no shorter text is tried
+-- the character behind a NumericLiteral must be no start of a name and no digit; no shorter text is
+-- tried
 abbrev pub unless_joined : List ℕ → Option (List ℕ)
 unless_joined cs = if begins is_start cs || begins is_decimal cs then None else Some cs
 

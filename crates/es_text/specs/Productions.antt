@@ -1,5 +1,6 @@
--- What productions are built of. A production takes a text of its own from the front of the characters, as
--- long a one as it can, and says what follows it, or None where no text of it stands there.
+-- What productions are built of. A production takes a text of its own from the front of the
+-- characters, as long a one as it can, and says what follows it, or None where no text of it stands
+-- there.
 use Rattle.std.specs.Prelude.{ℕ, List, [], ◌∷◌, length, Bool, nat_lt, ◌==◌, Option, Some, None, if◌then◌else◌}
 use Rattle.std.specs.Option.{option_and_then, unwrap_or}
 use Rattle.es_text.specs.Rest.{many}

@@ -8,7 +8,8 @@ use Rattle.es_text.specs.Characters.{is_decimal}
 
 -- whether the characters begin with this punctuator; `?.` is none before a decimal digit
 abbrev pub fits : List ℕ → List ℕ → Bool
-fits cs text = starts_with nat_eq cs text && not (bytes_eq text (codes "?.") && begins is_decimal (drop 2 cs))
+fits cs text =
+    starts_with nat_eq cs text && not (bytes_eq text (codes "?.") && begins is_decimal (drop 2 cs))
 
 -- of two texts the longer one
 abbrev pub longer_text : List ℕ → Option (List ℕ) → List ℕ

@@ -3,7 +3,7 @@ use Rattle.std.specs.Prelude.{ℕ, zero, suc, ◌-◌, Bool, false, ◌==◌, Li
 use Rattle.std.specs.Option.{option_map_or}
 use Rattle.std.specs.Str.{chars, encode_utf8_all}
 
--- what stands from this offset of a text on; texts are given in UTF-8, and an offset counts its bytes
+-- what stands from this offset of a text on; texts are given in UTF-8, whose bytes an offset counts
 unfoldable pub rest : List ℕ → ℕ → List ℕ
 rest text at = chars (drop at text)
 
@@ -31,8 +31,8 @@ abbrev pub drop_while : (ℕ → Bool) → List ℕ → List ℕ
 drop_while class [] = []
 drop_while class (c ∷ cs) = if class c then drop_while class cs else c ∷ cs
 
--- What follows as many items as there are, one behind the other; an item says what follows it. The number
--- bounds the turns, and there are as many items at most as characters
+-- What follows as many items as there are, one behind the other; an item says what follows it. The
+-- number bounds the turns, and there are as many items at most as characters
 unfoldable pub many_in : ℕ → (List ℕ → Option (List ℕ)) → List ℕ → List ℕ
 many_in zero item cs = cs
 many_in (suc turns) item cs = option_map_or (many_in turns item) (item cs) cs

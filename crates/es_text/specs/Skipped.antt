@@ -6,8 +6,8 @@ use Rattle.es_text.specs.declared.token.Comment.{Comment}
 use Rattle.es_text.specs.Rest.{offset_of, begins_with, tail, drop_while}
 use Rattle.es_text.specs.Characters.{is_in_line, is_line_terminator, is_white_space, asterisk, exclamation_mark, number_sign, slash}
 
--- one white space, line end or comment: whether it is or holds a line end, and what follows it. Of a
--- comment also whether it is a block comment
+-- one white space, line end or comment: whether it is or holds a line end, and what follows it. Of
+-- a comment also whether it is a block comment
 pub data PieceKind : Type 0 where
   blank : PieceKind
   comment : (block : Bool) → PieceKind
@@ -22,7 +22,8 @@ pub record Piece : Type 0 where
 unfoldable pub after_block : Bool → List ℕ → Option Piece
 after_block line [] = None
 after_block line (c ∷ cs) =
-    if c == asterisk && begins_with slash cs then Some (record { kind = comment true; line = line; behind = tail cs })
+    if c == asterisk && begins_with slash cs
+    then Some (record { kind = comment true; line = line; behind = tail cs })
     else after_block (line || is_line_terminator c) cs
 
 -- behind `//` or `#!`: the comment goes up to the end of the line, which is no part of it
@@ -32,23 +33,30 @@ after_line cs = record { kind = comment false; line = false; behind = drop_while
 -- behind a slash
 unfoldable pub after_slash : List ℕ → Option Piece
 after_slash [] = None
-after_slash (c ∷ cs) = if c == slash then Some (after_line cs) else if c == asterisk then after_block false cs else None
+after_slash (c ∷ cs) =
+    if c == slash then Some (after_line cs)
+    else if c == asterisk then after_block false cs
+    else None
 
--- The white space, line end or comment with which these characters begin. A comment begins with `#!`
--- only where the text begins (14th edition, 12.5). CR and LF are two pieces here, since both are skipped.
+-- The white space, line end or comment with which these characters begin. A comment begins with
+-- `#!` only where the text begins (14th edition, 12.5). CR and LF are two pieces here, since both are
+-- skipped.
 unfoldable pub piece : Bool → List ℕ → Option Piece
 piece first [] = None
 piece first (c ∷ cs) =
     if is_white_space c || is_line_terminator c
     then Some (record { kind = blank; line = is_line_terminator c; behind = cs })
     else if c == slash then after_slash cs
-    else if first && (c == number_sign && begins_with exclamation_mark cs) then Some (after_line (tail cs))
+    else if first && (c == number_sign && begins_with exclamation_mark cs)
+    then Some (after_line (tail cs))
     else None
 
--- as many of them as there are, in order. The number bounds the turns; there are as many at most as characters
+-- as many of them as there are, in order. The number bounds the turns; there are as many at most as
+-- characters
 unfoldable pub pieces : ℕ → Bool → List ℕ → List Piece
 pieces zero first cs = []
-pieces (suc turns) first cs = option_map_or (λ p. p ∷ pieces turns false p.behind) (piece first cs) []
+pieces (suc turns) first cs =
+    option_map_or (λ p. p ∷ pieces turns false p.behind) (piece first cs) []
 
 abbrev pub skipped : Bool → List ℕ → List Piece
 skipped first cs = pieces (length cs) first cs
@@ -66,8 +74,10 @@ hold_line ps = list_any (λ p. p.line) ps
 abbrev pub comment_of : List ℕ → List ℕ → PieceKind → List ℕ → List Comment
 comment_of text cs blank behind = []
 comment_of text cs (comment block) behind =
-    record { block = block; span = record { start = offset_of text cs; end = offset_of text behind } } ∷ []
+    record { block = block; span = record { start = offset_of text cs; end = offset_of text behind } }
+    ∷ []
 
 abbrev pub comments_among : List ℕ → List ℕ → List Piece → List Comment
 comments_among text cs [] = []
-comments_among text cs (p ∷ ps) = comment_of text cs p.kind p.behind ++ comments_among text p.behind ps
+comments_among text cs (p ∷ ps) =
+    comment_of text cs p.kind p.behind ++ comments_among text p.behind ps

@@ -7,7 +7,8 @@ use Rattle.es_text.specs.declared.source.SourceFault.TheVariants.{TooLong, NoMem
 abbrev pub most_bytes : ℕ
 most_bytes = 2097152
 
--- what a fault says of a file with so many bytes: it is too long exactly where `TooLong` says so, with that number
+-- what a fault says of a file with so many bytes: it is too long exactly where `TooLong` says so, with
+-- that number
 abbrev pub TellsLength : ℕ → SourceFault → Type 0
 TellsLength len (TooLong bytes) = (bytes ≡ len) × (most_bytes < len)
 TellsLength len NoMemory = len ≤ most_bytes

@@ -1,4 +1,5 @@
--- A text and the places in it, in characters. ECMA-262's line terminators end lines, and ESLint's positions count lines and columns from 1.
+-- A text and the places in it, in characters. ECMA-262's line terminators end lines, and ESLint's
+-- positions count lines and columns from 1.
 use Rattle.std.specs.Prelude.{◌≡◌, ℕ, ◌+◌, ◌-◌, Bool, false, not, ◌&&◌, ◌==◌, nat_lt, List, [], ◌∷◌, if◌then◌else◌}
 use Rattle.std.specs.Char.{len_utf8}
 use Rattle.std.specs.Str.{encode_utf8_all}
@@ -26,7 +27,8 @@ without_mark (c ∷ cs) = if c == byte_order_mark then cs else c ∷ cs
 
 -- the text of a file's bytes: U+FFFD stands for each maximal piece that is no UTF-8
 abbrev pub text_of : List ℕ → Text
-text_of bytes = record { characters = without_mark (lossy_chars bytes); marked = is_marked (lossy_chars bytes) }
+text_of bytes =
+    record { characters = without_mark (lossy_chars bytes); marked = is_marked (lossy_chars bytes) }
 
 -- the text has these characters, and no mark stood in front of them
 abbrev pub IsPlain : List ℕ → Text → Type 0
@@ -42,7 +44,8 @@ begins_with_line_feed (c ∷ cs) = c == line_feed
 
 -- a line ends behind this character, where these follow: CR LF is one end, behind the LF
 abbrev pub ends_line : ℕ → List ℕ → Bool
-ends_line c following = is_line_terminator c && not (c == carriage_return && begins_with_line_feed following)
+ends_line c following =
+    is_line_terminator c && not (c == carriage_return && begins_with_line_feed following)
 
 -- how many UTF-16 code units a character takes (ECMA-262, 11.1.1)
 abbrev pub len_utf16 : ℕ → ℕ
@@ -57,7 +60,8 @@ place_behind c following place =
 -- from a place on, the place that is so many bytes further into these characters
 abbrev pub place_after : Place → List ℕ → ℕ → Place
 place_after place [] bytes = place
-place_after place (c ∷ cs) bytes = if bytes == 0 then place else place_after (place_behind c cs place) cs (bytes - len_utf8 c)
+place_after place (c ∷ cs) bytes =
+    if bytes == 0 then place else place_after (place_behind c cs place) cs (bytes - len_utf8 c)
 
 -- the place of an offset of a text
 abbrev pub place_at : List ℕ → ℕ → Place

@@ -1,5 +1,5 @@
--- The tokens of a text. ECMA-262 (13th edition), 12.5 to 12.8: a token is read in a mode, which the grammar fixes, as it
--- does the standard's goal symbols.
+-- The tokens of a text. ECMA-262 (13th edition), 12.5 to 12.8: a token is read in a mode, which the
+-- grammar fixes, as it does the standard's goal symbols.
 use Rattle.std.specs.Prelude.{ℕ, List, [], ◌∷◌, ◌++◌, drop, length, ◌||◌, ◌&&◌, ◌==◌, Option, Some, None, if◌then◌else◌}
 use Rattle.std.specs.Option.{option_map, option_or}
 use Rattle.es_text.specs.declared.token.LexMode.{LexMode}
@@ -23,8 +23,8 @@ pub record Form : Type 0 where
 abbrev pub of_kind : TokenKind → Option (List ℕ) → Option Form
 of_kind k behind = option_map (λ cs. record { kind = k; behind = cs }) behind
 
--- 12.6.1, without escapes, and by XID_Start and XID_Continue in place of ID_Start and ID_Continue: a start,
--- then parts
+-- 12.6.1, without escapes, and by XID_Start and XID_Continue in place of ID_Start and ID_Continue: a
+-- start, then parts
 abbrev pub name : List ℕ → Option (List ℕ)
 name [] = None
 name (c ∷ cs) = if is_start c then Some (drop_while is_part cs) else None
@@ -39,7 +39,7 @@ unfoldable pub escaped : List ℕ → Option (List ℕ)
 escaped [] = None
 escaped (c ∷ cs) = Some (if c == carriage_return && begins_with line_feed cs then tail cs else cs)
 
--- 12.8.4: a character of a text in these quotes, which may be U+2028 or U+2029, but is no other line end
+-- 12.8.4: a character of a text in these quotes, which may be U+2028 or U+2029, but no other line end
 unfoldable pub text_character : ℕ → List ℕ → Option (List ℕ)
 text_character quote [] = None
 text_character quote (c ∷ cs) =
@@ -81,8 +81,8 @@ body_character (c ∷ cs) =
     else if c == slash || is_line_terminator c then None
     else Some cs
 
--- behind the slash that begins a regular expression: a body that isn't empty and doesn't begin with `*`,
--- the slash, and parts
+-- behind the slash that begins a regular expression: a body that isn't empty and doesn't begin with
+-- `*`, the slash, and parts
 unfoldable pub after_regexp : List ℕ → Option (List ℕ)
 after_regexp cs =
     if begins_with slash cs || begins_with asterisk cs then None
@@ -97,7 +97,8 @@ unfoldable pub template_end : TokenKind → TokenKind → List ℕ → Option Fo
 template_end closed opened [] = None
 template_end closed opened (c ∷ cs) =
     if c == backtick then Some (record { kind = closed; behind = cs })
-    else if c == dollar_sign && begins_with left_brace cs then Some (record { kind = opened; behind = tail cs })
+    else if c == dollar_sign && begins_with left_brace cs
+    then Some (record { kind = opened; behind = tail cs })
     else None
 
 -- a character of a template, which a backslash makes of every one
@@ -123,17 +124,21 @@ template_tail (c ∷ cs) = if c == right_brace then after_template kind.Tail kin
 -- 12.7: the longest punctuator
 unfoldable pub punctuator : List ℕ → Option Form
 punctuator cs =
-    option_map (λ text. record { kind = kind.Punctuator (punctuator_code text); behind = drop (length text) cs }) (longest cs)
+    option_map
+    (λ text. record { kind = kind.Punctuator (punctuator_code text); behind = drop (length text) cs })
+    (longest cs)
 
--- 12, its goal symbols: a slash begins a regular expression, or else a punctuator; a brace goes on with a
--- template, or else is a punctuator
+-- 12, its goal symbols: a slash begins a regular expression, or else a punctuator; a brace goes on with
+-- a template, or else is a punctuator
 unfoldable pub by_mode : LexMode → List ℕ → Option Form
 by_mode mode.Division cs = punctuator cs
-by_mode mode.RegExp cs = if begins_with slash cs then of_kind kind.RegExp (regular_expression cs) else punctuator cs
-by_mode mode.TemplateTail cs = if begins_with right_brace cs then template_tail cs else punctuator cs
+by_mode mode.RegExp cs =
+    if begins_with slash cs then of_kind kind.RegExp (regular_expression cs) else punctuator cs
+by_mode mode.TemplateTail cs =
+    if begins_with right_brace cs then template_tail cs else punctuator cs
 
--- The form with which the characters begin, at its greatest length. Two forms begin alike only where a
--- number begins with a point, and the number is the longer one
+-- The form with which the characters begin, at its greatest length. Two forms begin alike only where
+-- a number begins with a point, and the number is the longer one
 unfoldable pub form : LexMode → List ℕ → Option Form
 form m [] = Some (record { kind = kind.End; behind = [] })
 form m (c ∷ cs) =
@@ -165,7 +170,9 @@ token text at m =
     })
     (form m (behind_skipped text at))
 
--- the comments before the first of these tokens, which is read from this offset on, and between them
+-- the comments before the first of these tokens, which is read from this offset on, and between
+-- them
 abbrev pub comments_between : List ℕ → ℕ → List Token → List Comment
 comments_between text at [] = []
-comments_between text at (t ∷ ts) = comments_among text (rest text at) (skipped_at text at) ++ comments_between text t.span.end ts
+comments_between text at (t ∷ ts) =
+    comments_among text (rest text at) (skipped_at text at) ++ comments_between text t.span.end ts

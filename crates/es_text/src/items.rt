@@ -70,8 +70,8 @@ impl<T> Items<T> {
     }
 }
 
-/// Puts an item at the end of the list at this index, and leaves the other lists. A refused push leaves
-/// all and hands the item back.
+/// Puts an item at the end of the list at this index, and leaves the other lists. A refused push
+/// leaves all and hands the item back.
 pub fn push_at<T>(lists: &mut Items<Items<T>>, at: usize, item: T) -> Result<(), AllocFailed<T>>
     requires { at < length lists.old }
     ensures ok { OnOk result (lists.new ≡ pushed_at lists.old at item) }

@@ -1,5 +1,5 @@
-//! The words that every layer above speaks in: texts, offsets and places in them, tokens, findings, lists,
-//! and what says that memory ran out.
+//! The words that every layer above speaks in: texts, offsets and places in them, tokens, findings,
+//! lists, and the answer of a call that is out of memory.
 #![tactic(auto)]
 
 mod finding;

@@ -42,8 +42,8 @@ impl From<NoMemory> for SourceFault {
 
 /// The text of a file, which finds the place of an offset and the UTF-16 units before it fast.
 ///
-/// Contracts see its characters, and whether a byte order mark stood in front of them. An offset counts
-/// bytes of the text's UTF-8, without the mark.
+/// Contracts see its characters, and whether a byte order mark stood in front of them. An offset
+/// counts bytes of the text's UTF-8, without the mark.
 #[derive(Drop, Debug)]
 pub struct Source {
     text: String,
@@ -63,16 +63,21 @@ impl Model for Source {
 
     ghost Value = { Text };
 
-    ghost view = { λ source. record { characters = chars (string_bytes source.text); marked = source.marked } };
+    ghost view = { λ source.
+        record { characters = chars (string_bytes source.text); marked = source.marked } };
 
-    ghost invariant = { λ source. (source.starts.items ≡ line_starts (chars (string_bytes source.text))) × (length (string_bytes source.text) ≤ MOST_TEXT_BYTES) × CountsUnits (string_bytes source.text) source.counts };
+    ghost invariant = { λ source.
+        (source.starts.items ≡ line_starts (chars (string_bytes source.text)))
+        × (length (string_bytes source.text) ≤ MOST_TEXT_BYTES)
+        × CountsUnits (string_bytes source.text) source.counts };
 }
 
 impl Source {
-    /// The text of a file. U+FFFD stands for each maximal piece of it that is no UTF-8 (Unicode 3.9), and
-    /// one leading byte order mark is taken off.
+    /// The text of a file. U+FFFD stands for each maximal piece of it that is no UTF-8 (Unicode, 3.9),
+    /// and one leading byte order mark is taken off.
     ///
-    /// `TooLong` where the file has more than `MOST_BYTES` bytes. It goes over the bytes once, and copies them.
+    /// `TooLong` where the file has more than `MOST_BYTES` bytes. It takes time in their number, and
+    /// memory for the text.
     pub fn new(alloc: Global, bytes: &[u8]) -> Result<Source, SourceFault>
         ensures ok { IfOk result (λ source. source ≡ text_of bytes.now) }
         ensures ascii { IfOk result (λ source. IsAscii bytes.now → IsPlain bytes.now source) }
@@ -103,7 +108,8 @@ impl Source {
 
     fn of(alloc: Global, text: String, marked: bool) -> Result<Source, NoMemory>
         requires { length (string_bytes text) ≤ MOST_TEXT_BYTES }
-        ensures { IfOk result (λ source. source ≡ record { characters = chars (string_bytes text); marked = marked }) }
+        ensures { IfOk result (λ source.
+            source ≡ record { characters = chars (string_bytes text); marked = marked }) }
     {
         let starts = line_starts(alloc, text.as_str())?;
         let counts = UnitCounts::of(alloc, text.as_str())?;
@@ -144,8 +150,8 @@ impl Source {
 
     /// The place of the character that begins at this offset, or of the text's end.
     ///
-    /// Lines end at LF, CR, U+2028 and U+2029 (ECMA-262, 12.3), and CR LF is one end. It costs a binary
-    /// search over the lines, and a count over 255 bytes at most, twice.
+    /// Lines end at LF, CR, U+2028 and U+2029 (ECMA-262, 12.3), and CR LF is one end. It costs a
+    /// binary search over the lines, and a count over 255 bytes at most, twice.
     pub fn place(&self, at: u32) -> Place
         requires { IsCharBoundary (text_bytes self.now) at }
         ensures { result ≡ place_at self.now.characters at }
@@ -161,8 +167,8 @@ impl Source {
         }
     }
 
-    /// How many UTF-16 code units stand before the character that begins at this offset, or before the
-    /// text's end.
+    /// How many UTF-16 code units stand before the character that begins at this offset, or before
+    /// the text's end.
     ///
     /// In ASCII it's the offset itself, and in other texts costs a count over 255 bytes at most.
     pub fn units(&self, at: u32) -> u32

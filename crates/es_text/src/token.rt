@@ -7,7 +7,7 @@ pub enum TokenKind {
     Word,
     /// `#` and a name (12.6).
     Private,
-    /// A punctuator, with its index in the list of punctuators (12.7), which is its code in `es_tables`.
+    /// A punctuator, with its index in the list of punctuators (12.7): its code in `es_tables`.
     Punctuator(u16),
     /// A numeric literal (12.8.3).
     Number,
@@ -47,8 +47,8 @@ pub struct Comment {
     pub span: Span,
 }
 
-/// How a token is read where `/` or `}` begins more than one form; the grammar fixes it, as it does the
-/// goal symbols of ECMA-262, 12.
+/// How a token is read where `/` or `}` begins more than one form; the grammar fixes it, as it does
+/// the goal symbols of ECMA-262, 12.
 #[derive(Clone, Copy, Debug, PartialEq, Eq)]
 pub enum LexMode {
     /// `/` and `}` are punctuators.

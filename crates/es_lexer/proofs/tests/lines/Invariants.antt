@@ -1,4 +1,0 @@
-use Rattle.es_lexer.proofs.tests.lines.Given as goal
-
-abbrev pub ghosts-wrong_line : goal.ghosts-wrong_line
-ghosts-wrong_line g a = record { name = a.blank.name; parts = a.blank.parts }
