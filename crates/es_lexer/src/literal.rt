@@ -114,8 +114,10 @@ fn escaped_end(start: Cursor<'_>) -> Option<Cursor<'_>>
     ensures moves { IfSome result (StepsOn start.entry) }
 {
     let (c, next) = start.next()?;
-    if c == '\r' && next.begins_with('\n') {
-        return next.just('\n');
+    if c == '\r'
+        && let Some(feed) = next.just('\n')
+    {
+        return Some(feed);
     }
     Some(next)
 }
