@@ -2,3 +2,4 @@ pub mod Fakes
 pub mod Outside
 pub mod Real
 pub mod Seen
+pub mod Streams

@@ -1,23 +1,11 @@
 -- What the outside holds and was sent, and how its faults are counted.
-use Rattle.std.specs.Prelude.{ℕ, ◌+◌, ◌-◌, ◌^◌, ◌<◌, ◌≤◌, ◌≡◌, ◌⊎◌, Bool, true, false, min, List, ◌++◌, length, take, Option, Some, option_map}
+use Rattle.std.specs.Prelude.{ℕ, ◌+◌, ◌-◌, ◌^◌, ◌<◌, ◌≤◌, ◌≡◌, ◌⊎◌, Bool, true, false, min, List, ◌++◌, length, take, Option, None, Some, option_map}
+use Rattle.std.specs.Option.{ForSome}
 use Rattle.std.specs.FinMap as map
 use Rattle.std.specs.Ordering.{nat_cmp}
 use Rattle.std.specs.Cmp.Lexicographic.{slice_cmp}
 
--- what is held: from names, as their bytes, to bytes
-abbrev pub Held : Type 0
-Held = map.FinMap (slice_cmp nat_cmp) (List ℕ)
-
--- a call of the outside: the name that it was given, and whether it was a write
-pub record Call : Type 0 where
-  pub name : List ℕ
-  pub writes : Bool
-
-abbrev pub reading : List ℕ → Call
-reading name = record { name = name; writes = false }
-
-abbrev pub writing : List ℕ → Call
-writing name = record { name = name; writes = true }
+-- ---- counts
 
 -- the last value of a count
 abbrev pub last_count : ℕ
@@ -31,23 +19,80 @@ one_more count = min (count + 1) last_count
 abbrev pub Rose : ℕ → ℕ → Type 0
 Rose before now = one_more before ≤ now
 
--- what is held once the name holds these bytes, and every other name what it held
-abbrev pub with_bytes : Option Held → List ℕ → List ℕ → Option Held
-with_bytes holds name bytes = option_map (λ held. map.insert held name bytes) holds
+-- ---- files
+
+-- what is held: from names, as their bytes, to bytes
+abbrev pub Held : Type 0
+Held = map.FinMap (slice_cmp nat_cmp) (List ℕ)
 
 -- the name is held, with more bytes than the limit
 abbrev pub HoldsMore : Held → List ℕ → ℕ → Type 0
 HoldsMore held name limit = (bytes : List ℕ) × (map.get held name ≡ Some bytes) × (limit < length bytes)
 
--- what a failed write leaves: all as it was, or the name holds the first of the bytes
-abbrev pub LeavesPart : Option Held → List ℕ → List ℕ → Option Held → Type 0
+-- a call of the files: the name that it was given, and whether it was a write
+pub record Call : Type 0 where
+  pub name : List ℕ
+  pub writes : Bool
+
+abbrev pub reading : List ℕ → Call
+reading name = record { name = name; writes = false }
+
+abbrev pub writing : List ℕ → Call
+writing name = record { name = name; writes = true }
+
+-- the state of files: what is held, where this is told; how many calls have failed; and the last call that failed
+pub record FilesState : Type 0 where
+  pub holds : Option Held
+  pub faults : ℕ
+  pub failed : Option Call
+
+-- where it is told what is held, the name is held with these bytes
+abbrev pub IsHeld : FilesState → List ℕ → List ℕ → Type 0
+IsHeld files name bytes = ForSome files.holds (λ held. map.get held name ≡ Some bytes)
+
+-- where it is told what is held, the name is not held
+abbrev pub IsMissing : FilesState → List ℕ → Type 0
+IsMissing files name = ForSome files.holds (λ held. map.get held name ≡ None)
+
+-- where it is told what is held, the name is held with more bytes than the limit
+abbrev pub IsTooLong : FilesState → List ℕ → ℕ → Type 0
+IsTooLong files name limit = ForSome files.holds (λ held. HoldsMore held name limit)
+
+-- the name holds these bytes now, and all else is as it was
+abbrev pub with_bytes : FilesState → List ℕ → List ℕ → FilesState
+with_bytes files name bytes = record files { holds = option_map (λ held. map.insert held name bytes) files.holds }
+
+-- what a failed write leaves of what is held: all as it was, or the name holds the first of the bytes
+abbrev pub LeavesPart : FilesState → List ℕ → List ℕ → FilesState → Type 0
 LeavesPart before name bytes now =
-    (now ≡ before) ⊎ ((left : ℕ) × (now ≡ with_bytes before name (take left bytes)))
+    (now.holds ≡ before.holds) ⊎ ((left : ℕ) × (now.holds ≡ (with_bytes before name (take left bytes)).holds))
 
--- what was sent so far, and these bytes after it
-abbrev pub with_sent : Option (List ℕ) → List ℕ → Option (List ℕ)
-with_sent sent bytes = option_map (λ got. got ++ bytes) sent
+-- some call failed: the count rose
+abbrev pub FilesFailed : FilesState → FilesState → Type 0
+FilesFailed before now = Rose before.faults now.faults
 
--- what a sink has once a write failed: some first part of the bytes joined what it had
-abbrev pub GotPart : Option (List ℕ) → List ℕ → Option (List ℕ) → Type 0
-GotPart before bytes now = (left : ℕ) × (now ≡ with_sent before (take left bytes))
+-- this call failed: the count rose, and it is the last call that failed
+pub record HasFailed (before : FilesState) (call : Call) (now : FilesState) : Type 0 where
+  pub rose : FilesFailed before now
+  pub last : now.failed ≡ Some call
+
+-- ---- sinks
+
+-- the state of a sink: what it was sent, where this is told, and how many calls have failed
+pub record SinkState : Type 0 where
+  pub got : Option (List ℕ)
+  pub faults : ℕ
+
+-- these bytes were sent after what was sent before, and no call failed
+abbrev pub with_sent : SinkState → List ℕ → SinkState
+with_sent sink bytes = record sink { got = option_map (λ got. got ++ bytes) sink.got }
+
+-- some call failed: the count rose
+abbrev pub SinkFailed : SinkState → SinkState → Type 0
+SinkFailed before now = Rose before.faults now.faults
+
+-- sending these bytes failed: the count rose, and some first part of them was sent
+pub record SentPart (before : SinkState) (bytes : List ℕ) (now : SinkState) : Type 0 where
+  pub left : ℕ
+  pub part : now.got ≡ (with_sent before (take left bytes)).got
+  pub rose : SinkFailed before now

@@ -16,4 +16,6 @@ pub use real::{RealErr, RealFiles, RealOut};
 pub use sure::{SureFiles, SureSink};
 
 #[cfg(test)]
+mod stream_tests;
+#[cfg(test)]
 mod tests;

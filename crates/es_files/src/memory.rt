@@ -28,7 +28,13 @@ impl Model for MemoryFiles {
 
     ghost coded = { coded_files };
 
-    ghost view = { λ files. record { holds = files.contents; faults = files.faults; failed = files.failed; reads = files.reads; writes = files.writes } };
+    ghost view = { λ files. record {
+      holds = files.contents;
+      faults = files.faults;
+      failed = files.failed;
+      reads = files.reads;
+      writes = files.writes;
+    } };
 }
 
 impl MemoryFiles {
@@ -105,7 +111,8 @@ impl MemoryFiles {
     }
 
     fn fail_write(&mut self, alloc: Global, name: &str, part: &[u8]) -> WriteFault
-        ensures failed { result ≡ WriteFault.Failed → self.new ≡ with_fault (with_held self.old name.now part.now) (writing name.now) }
+        ensures failed { result ≡ WriteFault.Failed →
+            self.new ≡ with_fault (with_held self.old name.now part.now) (writing name.now) }
         ensures no_memory { result ≡ WriteFault.NoMemory → self.new ≡ self.old }
         ensures later { self.old.faults ≤ self.new.faults }
     {
@@ -132,11 +139,11 @@ fn first(bytes: &[u8], count: u64) -> &[u8]
 }
 
 impl Files for MemoryFiles {
-    ghost holds = { λ files. Some files.holds };
-
-    ghost faults = { λ files. files.faults };
-
-    ghost failed = { λ files. files.failed };
+    ghost state = { λ files. record {
+      holds = Some files.holds;
+      faults = files.faults;
+      failed = files.failed;
+    } };
 
     fn read(&mut self, alloc: Global, name: &str, limit: u64) -> Result<Vec<u8>, ReadFault>
         ensures ok { IfOk result (λ bytes. map.get self.old.holds name.now ≡ Some bytes.items) }
@@ -144,8 +151,10 @@ impl Files for MemoryFiles {
         ensures missing { result ≡ Err ReadFault.Missing → map.get self.old.holds name.now ≡ None }
         ensures long { result ≡ Err ReadFault.TooLong → HoldsMore self.old.holds name.now limit }
         ensures planned { result ≡ Err ReadFault.Failed → IsSome (next_failure self.old.reads) }
-        ensures unplanned { result ≢ Err ReadFault.Failed → result ≢ Err ReadFault.NoMemory → next_failure self.old.reads ≡ None }
-        ensures failed { result ≡ Err ReadFault.Failed → self.new ≡ with_fault (read_counted self.old) (reading name.now) }
+        ensures unplanned { result ≢ Err ReadFault.Failed → result ≢ Err ReadFault.NoMemory →
+            next_failure self.old.reads ≡ None }
+        ensures failed { result ≡ Err ReadFault.Failed →
+            self.new ≡ with_fault (read_counted self.old) (reading name.now) }
         ensures counted { result ≢ Err ReadFault.Failed → self.new ≡ read_counted self.old }
         ensures later { self.old.faults ≤ self.new.faults }
     {
@@ -158,7 +167,8 @@ impl Files for MemoryFiles {
     fn write(&mut self, alloc: Global, name: &str, bytes: &[u8]) -> Result<(), WriteFault>
         ensures ok { OnOk result (self.new ≡ with_held (write_counted self.old) name.now bytes.now) }
         ensures unplanned { OnOk result (next_failure self.old.writes ≡ None) }
-        ensures failed { result ≡ Err WriteFault.Failed → IsFailedWrite self.old name.now bytes.now self.new }
+        ensures failed { result ≡ Err WriteFault.Failed →
+            IsFailedWrite self.old name.now bytes.now self.new }
         ensures no_memory { result ≡ Err WriteFault.NoMemory → self.new ≡ write_counted self.old }
         ensures later { self.old.faults ≤ self.new.faults }
     {
@@ -220,9 +230,7 @@ impl MemorySink {
 }
 
 impl Sink for MemorySink {
-    ghost got = { λ sink. Some sink.got };
-
-    ghost faults = { λ sink. sink.faults };
+    ghost state = { λ sink. record { got = Some sink.got; faults = sink.faults } };
 
     fn write(&mut self, _alloc: Global, bytes: &[u8]) -> Result<(), SinkFault>
         ensures ok { OnOk result (self.new ≡ with_more (send_counted self.old) bytes.now) }

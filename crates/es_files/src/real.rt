@@ -7,7 +7,7 @@ use crate::outside::{Files, ReadFault, Sink, SinkFault, WriteFault};
 use crate::streams::{read_within, write_whole};
 use es_text::NoMemory;
 use std::alloc::Global;
-use std::io::{ErrorKind, Print, Stderr};
+use std::io::{ErrorKind, Print, Write};
 use std::marker::Model;
 use std::{fs, io};
 
@@ -77,11 +77,7 @@ fn write_named<R: fs::Files>(rt: &R, name: &str, bytes: &[u8]) -> io::Result<()>
 }
 
 impl<'a, R: fs::Files> Files for RealFiles<'a, R> {
-    ghost holds = { λ _. None };
-
-    ghost faults = { λ files. files.count };
-
-    ghost failed = { λ files. files.last };
+    ghost state = { λ files. record { holds = None; faults = files.count; failed = files.last } };
 
     fn read(&mut self, alloc: Global, name: &str, limit: u64) -> Result<Vec<u8>, ReadFault> {
         let Ok(call) = FailedCall::new(alloc, name, false) else {
@@ -135,9 +131,7 @@ impl<'a, R: Print> RealOut<'a, R> {
 }
 
 impl<'a, R: Print> Sink for RealOut<'a, R> {
-    ghost got = { λ _. None };
-
-    ghost faults = { λ faults. faults };
+    ghost state = { λ faults. record { got = None; faults = faults } };
 
     fn write(&mut self, _alloc: Global, bytes: &[u8]) -> Result<(), SinkFault> {
         match write_whole(&mut io::writer(self.rt), bytes) {
@@ -152,12 +146,12 @@ impl<'a, R: Print> Sink for RealOut<'a, R> {
 
 /// The standard error. It tells nothing of what it was sent.
 #[derive(Drop)]
-pub struct RealErr {
-    stream: Stderr,
+pub struct RealErr<W: Write + Drop> {
+    stream: W,
     faults: u64,
 }
 
-impl Model for RealErr {
+impl<W: Write + Drop> Model for RealErr<W> {
     ghost use Rattle.std.specs.Prelude.{ℕ};
     ghost use Rattle.std.specs.Coded.{coded_ℕ};
 
@@ -168,19 +162,17 @@ impl Model for RealErr {
     ghost view = { λ err. err.faults };
 }
 
-impl RealErr {
-    /// Takes the runtime's `stderr()`.
-    pub fn new(stream: Stderr) -> RealErr
+impl<W: Write + Drop> RealErr<W> {
+    /// Takes the stream, which for the program is the runtime's `stderr()`.
+    pub fn new(stream: W) -> RealErr<W>
         ensures { result ≡ 0 }
     {
         RealErr { stream, faults: 0 }
     }
 }
 
-impl Sink for RealErr {
-    ghost got = { λ _. None };
-
-    ghost faults = { λ faults. faults };
+impl<W: Write + Drop> Sink for RealErr<W> {
+    ghost state = { λ faults. record { got = None; faults = faults } };
 
     fn write(&mut self, _alloc: Global, bytes: &[u8]) -> Result<(), SinkFault> {
         match write_whole(&mut self.stream, bytes) {

@@ -52,11 +52,7 @@ impl SureFiles {
 }
 
 impl Files for SureFiles {
-    ghost holds = { λ held. Some held };
-
-    ghost faults = { λ _. 0 };
-
-    ghost failed = { λ _. None };
+    ghost state = { λ held. record { holds = Some held; faults = 0; failed = None } };
 
     fn read(&mut self, alloc: Global, name: &str, limit: u64) -> Result<Vec<u8>, ReadFault> {
         self.contents.read(alloc, name, limit)
@@ -106,9 +102,7 @@ impl SureSink {
 }
 
 impl Sink for SureSink {
-    ghost got = { λ bytes. Some bytes };
-
-    ghost faults = { λ _. 0 };
+    ghost state = { λ bytes. record { got = Some bytes; faults = 0 } };
 
     fn write(&mut self, _alloc: Global, bytes: &[u8]) -> Result<(), SinkFault> {
         match self.bytes.extend_from_slice(bytes) {

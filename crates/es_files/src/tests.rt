@@ -1,7 +1,8 @@
 use crate::outside::{Files, ReadFault, Sink, SinkFault, WriteFault};
 use crate::{MemoryFiles, MemorySink, RealErr, RealFiles, RealOut, SureFiles, SureSink};
+use std::cell::Cell;
 use std::fmt::Display;
-use std::io::Print;
+use std::io::{Print, Write};
 use std::test::Fail;
 use std::{env, fs, io, process};
 
@@ -19,40 +20,41 @@ fn holds(files: &MemoryFiles, name: &str, bytes: &[u8]) -> bool {
 }
 
 #[test]
-fn files_in_memory_fail_by_plan(rt: HostRuntime) -> Result<(), Fail> {
+fn reads_in_memory_fail_by_plan(rt: HostRuntime) -> Result<(), Fail> {
     let mut files = MemoryFiles::new(rt.alloc())?;
     files.hold(rt.alloc(), "a.js", b"first")?;
     files.hold(rt.alloc(), "a.js", b"a\n")?;
-    files.hold(rt.alloc(), "b.js", b"b\n")?;
     files.fail(rt.alloc(), false, 2, 0)?;
-    files.fail(rt.alloc(), true, 2, 0)?;
-    files.fail(rt.alloc(), true, 2, 1)?;
-    files.fail(rt.alloc(), true, 4, 100)?;
-    let reads: [(&str, u64, Result<&[u8], ReadFault>); 6] = [
-        ("c.js", 9, Err(ReadFault::Missing)),
+    files.fail(rt.alloc(), true, 1, 0)?;
+    let reads: [(&str, u64, Result<&[u8], ReadFault>); 4] = [
+        ("A.js", 9, Err(ReadFault::Missing)),
         ("a.js", 2, Err(ReadFault::Failed)),
         ("a.js", 2, Ok(b"a\n")),
         ("a.js", 1, Err(ReadFault::TooLong)),
-        ("b.js", u64::MAX, Ok(b"b\n")),
-        ("A.js", 9, Err(ReadFault::Missing)),
     ];
     for (name, limit, want) in reads {
         let answer = files.read(rt.alloc(), name, limit);
         assert!(rt; answers(answer, want), "reading {name} within {limit}");
     }
-    let writes: [(&str, &[u8], Result<(), WriteFault>, &[u8]); 5] = [
+    Ok(())
+}
+
+#[test]
+fn writes_in_memory_fail_by_plan(rt: HostRuntime) -> Result<(), Fail> {
+    let mut files = MemoryFiles::new(rt.alloc())?;
+    files.hold(rt.alloc(), "b.js", b"b\n")?;
+    files.fail(rt.alloc(), true, 2, 0)?;
+    files.fail(rt.alloc(), true, 2, 1)?;
+    files.fail(rt.alloc(), true, 3, 100)?;
+    let writes: [(&str, &[u8], Result<(), WriteFault>, &[u8]); 4] = [
         ("a.js", b"xyz", Ok(()), b"xyz"),
         ("a.js", b"uv", Err(WriteFault::Failed), b"u"),
-        ("n.js", b"", Ok(()), b""),
         ("m.js", b"mm", Err(WriteFault::Failed), b"mm"),
-        ("m.js", b"m", Ok(()), b"m"),
+        ("m.js", b"", Ok(()), b""),
     ];
     for (name, bytes, want, left) in writes {
-        assert_eq!(rt;
-            files.write(rt.alloc(), name, bytes),
-            want,
-            "writing {name}"
-        );
+        let answer = files.write(rt.alloc(), name, bytes);
+        assert_eq!(rt; answer, want, "writing {name}");
         assert!(rt; holds(&files, name, left), "after writing {name}");
     }
     assert!(rt; holds(&files, "b.js", b"b\n"));
@@ -102,26 +104,48 @@ fn sure_kinds_do_not_fail(rt: HostRuntime) -> Result<(), Fail> {
     Ok(())
 }
 
+/// A name in the folder for temporary files, which no other process uses.
+fn temporary(rt: &HostRuntime, what: &str) -> Result<String, Fail> {
+    let folder = env::temp_dir(rt)?.into_string();
+    let folder = folder.as_str();
+    let number = process::id(rt.process());
+    Ok(format!(in rt.alloc(); "{folder}/es_files-{what}-{number}")?)
+}
+
 #[test]
-fn real_files_are_read_and_written(rt: HostRuntime) -> Result<(), Fail> {
-    let folder = env::temp_dir(&rt)?.into_string();
-    let name = format!(in rt.alloc();
-        "{}/es_files-{}",
-        folder.as_str(),
-        process::id(rt.process())
-    )?;
-    let missing = format!(in rt.alloc(); "{}.missing", name.as_str())?;
+fn a_real_file_is_written_and_read(rt: HostRuntime) -> Result<(), Fail> {
+    let name = temporary(&rt, "file")?;
     let mut files = RealFiles::new(&rt);
     let before = files.write(rt.alloc(), name.as_str(), b"longer than the next");
     let written = files.write(rt.alloc(), name.as_str(), b"\xffb\n");
     let whole = files.read(rt.alloc(), name.as_str(), 3);
     let long = files.read(rt.alloc(), name.as_str(), 2);
     fs::remove_file(&rt, name.as_str())?;
+    let gone = files.read(rt.alloc(), name.as_str(), 3);
     assert_eq!(rt; (before, written), (Ok(()), Ok(())));
     assert!(rt; answers(whole, Ok(b"\xffb\n")));
     assert!(rt; answers(long, Err(ReadFault::TooLong)));
-    let absent = files.read(rt.alloc(), missing.as_str(), 2);
-    assert!(rt; answers(absent, Err(ReadFault::Missing)));
+    assert!(rt; answers(gone, Err(ReadFault::Missing)));
+    Ok(())
+}
+
+/// Only a name that isn't there is missing: a folder, and a name below a file, can't be read, nor can a
+/// name below a folder that isn't there be written.
+#[test]
+fn other_real_names_fail(rt: HostRuntime) -> Result<(), Fail> {
+    let file = temporary(&rt, "below")?;
+    let below = format!(in rt.alloc(); "{file}/x")?;
+    let folder = env::temp_dir(&rt)?.into_string();
+    let mut files = RealFiles::new(&rt);
+    let lost = files.write(rt.alloc(), below.as_str(), b"b");
+    let made = files.write(rt.alloc(), file.as_str(), b"b");
+    let read = files.read(rt.alloc(), below.as_str(), 2);
+    let written = files.write(rt.alloc(), below.as_str(), b"b");
+    fs::remove_file(&rt, file.as_str())?;
+    assert_eq!(rt; lost, Err(WriteFault::Failed));
+    assert_eq!(rt; made, Ok(()));
+    assert!(rt; answers(read, Err(ReadFault::Failed)));
+    assert_eq!(rt; written, Err(WriteFault::Failed));
     let inside = files.read(rt.alloc(), folder.as_str(), 2);
     assert!(rt; answers(inside, Err(ReadFault::Failed)));
     let over = files.write(rt.alloc(), folder.as_str(), b"b");
@@ -129,10 +153,14 @@ fn real_files_are_read_and_written(rt: HostRuntime) -> Result<(), Fail> {
     Ok(())
 }
 
-/// An output that takes nothing.
-struct Full;
+/// An output that takes so many bytes at a time, and keeps them as the digits of one number.
+#[derive(Drop)]
+struct Page {
+    step: usize,
+    got: Cell<u64>,
+}
 
-impl Print for Full {
+impl Print for Page {
     fn print<D: Display + Drop>(&self, _value: D) -> io::Result<()> {
         Ok(())
     }
@@ -145,18 +173,40 @@ impl Print for Full {
         Ok(())
     }
 
-    fn write_some(&self, _bytes: &[u8]) -> io::Result<usize> {
-        Ok(0)
+    fn write_some(&self, bytes: &[u8]) -> io::Result<usize> {
+        let count = bytes.len().min(self.step);
+        for byte in &bytes[..count] {
+            let before = self.got.get().wrapping_mul(256);
+            self.got.set(before.wrapping_add(*byte as u64));
+        }
+        Ok(count)
     }
 }
 
 #[test]
-fn real_streams_are_written(rt: HostRuntime) {
-    let mut out = RealOut::new(&rt);
-    assert_eq!(rt; out.write(rt.alloc(), b"to the standard output\n"), Ok(()));
-    let mut err = RealErr::new(rt.stderr());
-    assert_eq!(rt; err.write(rt.alloc(), b"to the standard error\n"), Ok(()));
-    let mut full = RealOut::new(&Full);
-    assert_eq!(rt; full.write(rt.alloc(), b""), Ok(()));
-    assert_eq!(rt; full.write(rt.alloc(), b"a"), Err(SinkFault::Failed));
+fn the_standard_output_gets_all_once(rt: HostRuntime) {
+    // How many bytes it takes at a time, what it is sent, the answer, and what it got.
+    let cases: [(usize, &[u8], Result<(), SinkFault>, u64); 4] = [
+        (9, b"ab\n", Ok(()), 0x61_62_0a),
+        (1, b"ab\n", Ok(()), 0x61_62_0a),
+        (0, b"", Ok(()), 0),
+        (0, b"a", Err(SinkFault::Failed), 0),
+    ];
+    for (step, bytes, want, got) in cases {
+        let page = Page {
+            step,
+            got: Cell::new(0),
+        };
+        let answer = RealOut::new(&page).write(rt.alloc(), bytes);
+        assert_eq!(rt; answer, want);
+        assert_eq!(rt; page.got.get(), got);
+    }
+}
+
+#[test]
+fn the_standard_streams_can_be_written(rt: HostRuntime) {
+    let printed = RealOut::new(&rt).write(rt.alloc(), b"to the standard output\n");
+    assert_eq!(rt; printed, Ok(()));
+    let told = RealErr::new(rt.stderr()).write(rt.alloc(), b"to the standard error\n");
+    assert_eq!(rt; told, Ok(()));
 }
