@@ -2,13 +2,13 @@ pub mod Ascii
 pub mod CharacterLemmas
 pub mod FreshLemmas
 pub mod InsideLemmas
-pub mod Kits
+pub mod KitsLemmas
 pub mod Orders
 pub mod Parts
 pub mod Parsing
 pub mod Programs
 pub mod ReportLemmas
-pub mod RunLemmas
+pub mod RunsLemmas
 pub mod Sequences
 pub mod Statements
 pub mod StylishLemmas

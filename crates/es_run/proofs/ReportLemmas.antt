@@ -11,12 +11,11 @@ use Rattle.es_tree.specs.Rows.{Row}
 use Rattle.es_host.specs.Events.{File, pair}
 use Rattle.es_host.specs.Spans.{is_part, spans_fit}
 use Rattle.es_run.specs.declared.report.Outcome.{Outcome}
-use Rattle.es_run.specs.declared.stylish.Problem.{Problem}
 use Rattle.es_run.specs.Fresh.{problem_of, problems_of, small_file, status_of}
 use Rattle.es_run.specs.Inside.{IsTreeOf}
 use Rattle.es_run.specs.Order.{IsInOrder}
 use Rattle.es_run.specs.Stages.{IsReportOn, done_status}
-use Rattle.es_run.specs.Stylish.{stylish_of}
+use Rattle.es_run.specs.Stylish.{Problem, stylish_of}
 use Rattle.es_run.proofs.Ascii.{small_ascii}
 use Rattle.es_run.proofs.Parts.{plain_parts}
 

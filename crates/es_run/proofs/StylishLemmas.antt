@@ -9,8 +9,7 @@ use Rattle.std.specs.Str.{IsUtf8, IsAscii, chars}
 use Rattle.std.specs.Fmt.{decimal}
 use lib.Utf8.{encode}
 use Rattle.es_text.specs.declared.span.Place.{Place}
-use Rattle.es_run.specs.declared.stylish.Problem.{Problem}
-use Rattle.es_run.specs.Stylish.{line_end, place_text, widest, padded, problem_line, ending_of, counted, summary}
+use Rattle.es_run.specs.Stylish.{Problem, line_end, place_text, widest, padded, problem_line, ending_of, counted, summary}
 
 -- an ASCII character is one byte
 pub encodes-cons : (c : ℕ) (cs : List ℕ) → c < 128 → encode_utf8_all (c ∷ cs) ≡ c ∷ encode_utf8_all cs

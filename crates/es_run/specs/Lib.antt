@@ -5,6 +5,7 @@ pub mod Inside
 pub mod Kits
 pub mod Order
 pub mod Reading
+pub mod Runs
 pub mod SmallText
 pub mod Stages
 pub mod Statuses

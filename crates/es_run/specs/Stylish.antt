@@ -3,7 +3,12 @@ use Rattle.std.specs.Prelude.{ℕ, ◌-◌, List, [], ◌∷◌, ◌++◌, lengt
 use Rattle.std.specs.Fmt.{decimal}
 use Rattle.std.specs.List.{flat_map}
 use Rattle.es_text.specs.declared.span.Place.{Place}
-use Rattle.es_run.specs.declared.stylish.Problem.{Problem}
+
+-- a problem of the file: its place, its message and the id of its rule
+pub record Problem : Type 0 where
+  pub place : Place
+  pub text : List ℕ
+  pub rule : List ℕ
 
 -- LF
 abbrev pub line_end : List ℕ

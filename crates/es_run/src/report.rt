@@ -6,8 +6,8 @@ ghost use Rattle.es_text.specs.Texts.{text_bytes, text_of};
 ghost use Rattle.es_host.specs.Kits.{SameRules};
 ghost use Rattle.es_host.specs.Reports.{kit_says};
 ghost use Rattle.es_host.specs.Spans.{is_part};
-ghost use Rattle.es_run.specs.Fresh.{problem_of};
-ghost use Rattle.es_run.specs.Kits.{ticked};
+ghost use Rattle.es_files.specs.Outside.{one_more};
+ghost use Rattle.es_run.specs.Fresh.{most_bytes, problem_of};
 ghost use Rattle.es_run.specs.Stages.{Reports};
 
 use crate::order::in_order;
@@ -31,11 +31,12 @@ pub(crate) fn report_on<R: Rule>(
     bytes: &[u8],
     kit: &mut Kit<R>,
 ) -> Result<Option<Outcome>, NoMemory>
-    requires { length bytes.now ≤ 65536 }
+    requires { length bytes.now ≤ most_bytes }
     ensures report { IfOk result (Reports (kit_says R.id R.says kit.old) name.now bytes.now) }
     ensures same { SameRules R.id R.interest R.says kit.new.rules kit.old.rules }
-    ensures lints { IfOk result (λ found. MatchOption found (kit.new.lints ≡ kit.old.lints) (λ _. kit.new.lints ≡ ticked kit.old.lints)) }
-    ensures once { (kit.new.lints ≡ kit.old.lints) ⊎ (kit.new.lints ≡ ticked kit.old.lints) }
+    ensures lints { IfOk result (λ found. MatchOption found (kit.new.lints ≡ kit.old.lints)
+        (λ _. kit.new.lints ≡ one_more kit.old.lints)) }
+    ensures once { (kit.new.lints ≡ kit.old.lints) ⊎ (kit.new.lints ≡ one_more kit.old.lints) }
 {
     let Some(tree) = parse(alloc, bytes)? else {
         return Ok(None);
@@ -52,7 +53,7 @@ pub(crate) fn report_on<R: Rule>(
 
 /// The source of so few bytes.
 fn source_of(alloc: Global, bytes: &[u8]) -> Result<Source, NoMemory>
-    requires { length bytes.now ≤ 65536 }
+    requires { length bytes.now ≤ most_bytes }
     ensures source { IfOk result (λ source. source ≡ text_of bytes.now) }
     ensures ascii { IfOk result (λ source. IsAscii bytes.now → source.characters ≡ bytes.now) }
 {
@@ -98,7 +99,8 @@ fn problems_of(
     reports: Vec<Report>,
 ) -> Result<Vec<Problem>, NoMemory>
     requires { list_all (λ report. is_part (text_bytes source.now) report.span) reports.items ≡ true }
-    ensures { IfOk result (λ problems. problems.items ≡ map (problem_of source.now.characters) reports.items) }
+    ensures { IfOk result (λ problems.
+        problems.items ≡ map (problem_of source.now.characters) reports.items) }
 {
     let mut problems = Vec::new(alloc);
     for report in reports {

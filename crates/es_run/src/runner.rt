@@ -1,9 +1,11 @@
 //! The run: words, file, report, status.
-ghost use Rattle.std.specs.Prelude.{◌≡◌, ◌≤◌, ◌⊎◌, ℕ, List, [], Some, Err, map, string_bytes, length, OnOk, IfOk, IfErr};
+ghost use Rattle.std.specs.Prelude.{◌≡◌, ◌≤◌, ◌⊎◌, ℕ, List, [], Err, map, string_bytes, length, OnOk, IfOk, IfErr};
 ghost use Rattle.std.specs.Cow.{cow_str_bytes};
-ghost use Rattle.es_files.specs.Outside.{GotPart, Held, Rose, with_sent};
-ghost use Rattle.es_run.specs.Kits.{SameKits, first_says, first_ticked, lints_of};
-ghost use Rattle.es_run.specs.Stages.{Blames, GivesFresh, GivesPart, IfCannotRead, IsDone, IsReported, IsSettled, IsSilent, IsTold, IsUnread, LintsFresh, Listened, Reports, done_status, fault_of};
+ghost use Rattle.std.specs.Option.{ForSome};
+ghost use Rattle.es_files.specs.Outside.{FilesFailed, SentPart, SinkFailed, with_sent};
+ghost use Rattle.es_run.specs.Kits.{ListensAtMostOnce, first_says, first_ticked, lints_of, of_rules};
+ghost use Rattle.es_run.specs.Runs.{DoesAsFresh, IfCannotRead, IsDone, IsReported, IsSettled, IsSilent, IsTold, IsUnlessNoMemory, IsUnread, PrintsPart, given, sinks};
+ghost use Rattle.es_run.specs.Stages.{Blames, Foretells, IsPrintStatus, Listened, done_status, fault_of};
 ghost use Rattle.es_run.specs.Statuses.{fault_line, line_about};
 ghost use Rattle.es_run.specs.Words.{NoName};
 ghost use Rattle.es_run.specs.declared.status.StopCause.{StopCause};
@@ -42,8 +44,8 @@ fn no_memory<E: Sink>(alloc: Global, err: &mut E) -> Status
 
 /// Tells the line of the cause. A failed write changes nothing else.
 fn stop<E: Sink>(alloc: Global, cause: StopCause, line: &str, err: &mut E) -> Status
-    ensures status { (result ≡ Status.Stopped cause) ⊎ (result ≡ Status.NoMemory) }
-    ensures told { result ≡ Status.Stopped cause → IsTold (E.got err.old) (E.got err.new) (E.faults err.old) (E.faults err.new) line.now }
+    ensures status { IsUnlessNoMemory (Status.Stopped cause) result }
+    ensures told { result ≡ Status.Stopped cause → IsTold (E.state err.old) line.now (E.state err.new) }
 {
     match err.write(alloc, line.as_bytes()) {
         Err(SinkFault::NoMemory) => no_memory(alloc, err),
@@ -87,8 +89,9 @@ fn line_of(alloc: Global, cause: &StopCause) -> Result<CowStr<'static>, NoMemory
 
 /// Ends the run for this cause.
 fn refuse<E: Sink>(alloc: Global, cause: StopCause, err: &mut E) -> Status
-    ensures status { (result ≡ Status.Stopped cause) ⊎ (result ≡ Status.NoMemory) }
-    ensures told { result ≡ Status.Stopped cause → IsTold (E.got err.old) (E.got err.new) (E.faults err.old) (E.faults err.new) (fault_line cause) }
+    ensures status { IsUnlessNoMemory (Status.Stopped cause) result }
+    ensures told { result ≡ Status.Stopped cause →
+        IsTold (E.state err.old) (fault_line cause) (E.state err.new) }
 {
     match line_of(alloc, &cause) {
         Ok(line) => stop(alloc, cause, line.as_str(), err),
@@ -104,14 +107,17 @@ fn lint<R: Rule, F: Files>(
     files: &mut F,
 ) -> Result<Outcome, Fault>
     requires { 1 ≤ length kits.old.items }
-    ensures same { F.holds files.new ≡ F.holds files.old }
-    ensures kits { SameKits R.id R.interest R.says kits.old.items kits.new.items }
+    ensures same { (F.state files.new).holds ≡ (F.state files.old).holds }
+    ensures ids { of_rules R.id kits.new.items ≡ of_rules R.id kits.old.items }
+    ensures interests { of_rules R.interest kits.new.items ≡ of_rules R.interest kits.old.items }
+    ensures says { of_rules R.says kits.new.items ≡ of_rules R.says kits.old.items }
     ensures lints { Listened result (lints_of kits.old.items) (lints_of kits.new.items) }
-    ensures fresh { (held : Held) → F.holds files.old ≡ Some held → LintsFresh (first_says R.id R.says kits.old.items) (map string_bytes words.now) held result }
-    ensures blame { IfErr result (Blames (map string_bytes words.now) (F.faults files.old) (F.faults files.new) (F.failed files.new)) }
-    ensures still { OnOk result (F.faults files.new ≡ F.faults files.old) }
+    ensures fresh { ForSome (F.state files.old).holds (λ held.
+        Foretells (given (first_says R.id R.says kits.old.items) words.now held) result) }
+    ensures blame { IfErr result (Blames (map string_bytes words.now) (F.state files.old) (F.state files.new)) }
+    ensures still { OnOk result (F.state files.new ≡ F.state files.old) }
     ensures words { NoName (map string_bytes words.now) → result ≡ Err (Fault.Stop StopCause.BadWords) }
-    ensures later { F.faults files.old ≤ F.faults files.new }
+    ensures later { (F.state files.old).faults ≤ (F.state files.new).faults }
 {
     let Some(word) = name_of(words) else {
         return Err(Fault::Stop(StopCause::BadWords));
@@ -129,14 +135,16 @@ fn lint<R: Rule, F: Files>(
 
 /// Prints the report, as one piece.
 fn print<O: Sink, E: Sink>(alloc: Global, outcome: &Outcome, out: &mut O, err: &mut E) -> Status
-    ensures status { (result ≡ done_status outcome.now.clean) ⊎ ((result ≡ Status.Stopped StopCause.CannotPrint) ⊎ (result ≡ Status.NoMemory)) }
-    ensures done { result ≡ done_status outcome.now.clean → O.got out.new ≡ with_sent (O.got out.old) (string_bytes outcome.now.text) }
-    ensures count { result ≡ done_status outcome.now.clean → O.faults out.new ≡ O.faults out.old }
-    ensures quiet { result ≡ done_status outcome.now.clean → E.got err.new ≡ E.got err.old }
-    ensures part { result ≡ Status.Stopped StopCause.CannotPrint → GotPart (O.got out.old) (string_bytes outcome.now.text) (O.got out.new) }
-    ensures cause { result ≡ Status.Stopped StopCause.CannotPrint → Rose (O.faults out.old) (O.faults out.new) }
-    ensures told { result ≡ Status.Stopped StopCause.CannotPrint → IsTold (E.got err.old) (E.got err.new) (E.faults err.old) (E.faults err.new) (fault_line StopCause.CannotPrint) }
-    ensures no_memory { result ≡ Status.NoMemory → (O.got out.new ≡ O.got out.old) ⊎ (GotPart (O.got out.old) (string_bytes outcome.now.text) (O.got out.new) × Rose (O.faults out.old) (O.faults out.new)) }
+    ensures status { IsPrintStatus outcome.now.clean result }
+    ensures done { result ≡ done_status outcome.now.clean →
+        O.state out.new ≡ with_sent (O.state out.old) (string_bytes outcome.now.text) }
+    ensures quiet { result ≡ done_status outcome.now.clean → E.state err.new ≡ E.state err.old }
+    ensures part { result ≡ Status.Stopped StopCause.CannotPrint →
+        SentPart (O.state out.old) (string_bytes outcome.now.text) (O.state out.new) }
+    ensures told { result ≡ Status.Stopped StopCause.CannotPrint →
+        IsTold (E.state err.old) (fault_line StopCause.CannotPrint) (E.state err.new) }
+    ensures no_memory { result ≡ Status.NoMemory → (O.state out.new ≡ O.state out.old)
+        ⊎ SentPart (O.state out.old) (string_bytes outcome.now.text) (O.state out.new) }
 {
     match out.write(alloc, outcome.text.as_bytes()) {
         Ok(()) => done(outcome.clean),
@@ -169,38 +177,57 @@ pub fn run<R: Rule, F: Files, O: Sink, E: Sink>(
     requires kits { 1 ≤ length kits.old.items }
 
     // The files are only read.
-    ensures files { F.holds files.new ≡ F.holds files.old }
+    ensures files { (F.state files.new).holds ≡ (F.state files.old).holds }
 
-    // A settled status comes with the output and the line of a fresh run, and a fresh run gives nothing else.
-    ensures fresh { IsSettled result → (held : Held) → F.holds files.old ≡ Some held → GivesFresh (first_says R.id R.says kits.old.items) (map string_bytes words.now) held result (O.got out.old) (O.got out.new) (E.got err.old) (E.got err.new) (E.faults err.old) (E.faults err.new) }
+    // A settled status comes with the output and the line of a fresh run, which gives nothing else.
+    ensures fresh { IsSettled result → ForSome (F.state files.old).holds (λ held.
+        DoesAsFresh (given (first_says R.id R.says kits.old.items) words.now held) result
+        (sinks (O.state out.old) (E.state err.old)) (sinks (O.state out.new) (E.state err.new))) }
 
     // Without a fault of the outside the status is settled, or memory was wanting.
-    ensures complete { (Rose (F.faults files.old) (F.faults files.new) → ⊥) → (Rose (O.faults out.old) (O.faults out.new) → ⊥) → IsSettled result ⊎ (result ≡ Status.NoMemory) }
+    ensures complete { (FilesFailed (F.state files.old) (F.state files.new) → ⊥) →
+        (SinkFailed (O.state out.old) (O.state out.new) → ⊥) →
+        IsSettled result ⊎ (result ≡ Status.NoMemory) }
 
     // The words alone decide on `BadWords`.
     ensures bad_words { result ≡ Status.Stopped StopCause.BadWords → NoName (map string_bytes words.now) }
-    ensures no_name { NoName (map string_bytes words.now) → (result ≡ Status.Stopped StopCause.BadWords) ⊎ (result ≡ Status.NoMemory) }
+    ensures no_name { NoName (map string_bytes words.now) →
+        IsUnlessNoMemory (Status.Stopped StopCause.BadWords) result }
 
     // A fault of the outside is to blame on a failed call.
-    ensures cannot_read { IfCannotRead result (λ name. IsUnread (map string_bytes words.now) name (F.faults files.old) (F.faults files.new) (F.failed files.new)) }
-    ensures cannot_print { result ≡ Status.Stopped StopCause.CannotPrint → Rose (O.faults out.old) (O.faults out.new) }
-    ensures part { result ≡ Status.Stopped StopCause.CannotPrint → (held : Held) → F.holds files.old ≡ Some held → GivesPart (first_says R.id R.says kits.old.items) (map string_bytes words.now) held (O.got out.old) (O.got out.new) }
+    ensures cannot_read { IfCannotRead result (λ name.
+        IsUnread (map string_bytes words.now) name (F.state files.old) (F.state files.new)) }
+    ensures cannot_print { result ≡ Status.Stopped StopCause.CannotPrint →
+        SinkFailed (O.state out.old) (O.state out.new) }
+    ensures part { result ≡ Status.Stopped StopCause.CannotPrint → ForSome (F.state files.old).holds (λ held.
+        PrintsPart (given (first_says R.id R.says kits.old.items) words.now held)
+        (O.state out.old) (O.state out.new)) }
 
     // Each cause has its line, and a run that prints its report tells nothing.
-    ensures told { (cause : StopCause) → result ≡ Status.Stopped cause → IsTold (E.got err.old) (E.got err.new) (E.faults err.old) (E.faults err.new) (fault_line cause) }
-    ensures quiet { IsDone result → E.got err.new ≡ E.got err.old }
+    ensures told { (cause : StopCause) → result ≡ Status.Stopped cause →
+        IsTold (E.state err.old) (fault_line cause) (E.state err.new) }
+    ensures quiet { IsDone result → E.state err.new ≡ E.state err.old }
 
     // What a run leaves of the output and of the counts.
-    ensures silent { IsSilent result → (O.got out.new ≡ O.got out.old) × (O.faults out.new ≡ O.faults out.old) }
-    ensures counts { IsDone result → (F.faults files.new ≡ F.faults files.old) × (O.faults out.new ≡ O.faults out.old) }
-    ensures no_memory { result ≡ Status.NoMemory → (O.got out.new ≡ O.got out.old) ⊎ Rose (O.faults out.old) (O.faults out.new) }
-    ensures no_more { result ≡ Status.NoMemory → (held : Held) → F.holds files.old ≡ Some held → (O.got out.new ≡ O.got out.old) ⊎ GivesPart (first_says R.id R.says kits.old.items) (map string_bytes words.now) held (O.got out.old) (O.got out.new) }
+    ensures silent { IsSilent result → O.state out.new ≡ O.state out.old }
+    ensures all_read { IsDone result → F.state files.new ≡ F.state files.old }
+    ensures all_printed { IsDone result → (O.state out.new).faults ≡ (O.state out.old).faults }
+    ensures no_memory { result ≡ Status.NoMemory →
+        (O.state out.new ≡ O.state out.old) ⊎ SinkFailed (O.state out.old) (O.state out.new) }
+    ensures no_more { result ≡ Status.NoMemory → ForSome (F.state files.old).holds (λ held.
+        (O.state out.new ≡ O.state out.old)
+        ⊎ PrintsPart (given (first_says R.id R.says kits.old.items) words.now held)
+        (O.state out.old) (O.state out.new)) }
 
-    // What a run makes of the kits: the first listens once where there is a report, and no other ever does.
-    ensures kits { SameKits R.id R.interest R.says kits.old.items kits.new.items }
+    // A run changes no meaning of a rule of the kits.
+    ensures ids { of_rules R.id kits.new.items ≡ of_rules R.id kits.old.items }
+    ensures interests { of_rules R.interest kits.new.items ≡ of_rules R.interest kits.old.items }
+    ensures says { of_rules R.says kits.new.items ≡ of_rules R.says kits.old.items }
+
+    // The first kit listens once where there is a report, and no other ever does.
     ensures listens { IsReported result → lints_of kits.new.items ≡ first_ticked (lints_of kits.old.items) }
     ensures rests { IsSilent result → lints_of kits.new.items ≡ lints_of kits.old.items }
-    ensures once { (lints_of kits.new.items ≡ lints_of kits.old.items) ⊎ (lints_of kits.new.items ≡ first_ticked (lints_of kits.old.items)) }
+    ensures once { ListensAtMostOnce (lints_of kits.old.items) (lints_of kits.new.items) }
 {
     match lint(alloc, words, kits, files) {
         Ok(outcome) => print(alloc, &outcome, out, err),

@@ -6,6 +6,7 @@ ghost use Rattle.es_run.specs.Stylish.{place_text, padded, problem_line, problem
 
 use es_text::{NoMemory, Place, Txt};
 use std::alloc::Global;
+use std::marker::Model;
 
 /// A problem of the file: its place, its message and the id of its rule.
 #[derive(Drop)]
@@ -13,6 +14,14 @@ pub(crate) struct Problem {
     pub(crate) place: Place,
     pub(crate) text: Txt,
     pub(crate) rule: Txt,
+}
+
+impl Model for Problem {
+    ghost use Rattle.es_run.specs.Stylish as stylish;
+
+    ghost Value = { stylish.Problem };
+
+    ghost view = { λ problem. record { place = problem.place; text = problem.text; rule = problem.rule } };
 }
 
 /// The widths of a file's places and messages, in characters.
@@ -137,16 +146,17 @@ mod tests {
     use super::{Problem, stylish};
     use es_text::{NoMemory, Place, Txt};
     use std::alloc::Global;
+    use std::marker::Model;
 
+    /// A file's name, its problems of the rule `r`, and the report on them.
     struct Case {
         name: &'static str,
         problems: &'static [(u32, u32, &'static str)],
         report: &'static str,
     }
 
-    const DEBUGGER: &str = "Unexpected 'debugger' statement.";
-
-    static CASES: [Case; 4] = [
+    // The columns are as wide as their widest text, counted in characters; nouns follow their number.
+    static CASES: [Case; 3] = [
         Case {
             name: "a.js",
             problems: &[],
@@ -154,37 +164,22 @@ mod tests {
         },
         Case {
             name: "a.js",
-            problems: &[(1, 1, DEBUGGER)],
+            problems: &[(1, 1, "One.")],
             report: "
 a.js
-  1:1  error  Unexpected 'debugger' statement.  no-debugger
+  1:1  error  One.  r
 
 ✖ 1 problem (1 error, 0 warnings)
 ",
         },
         Case {
-            name: "a.js",
-            problems: &[(1, 1, DEBUGGER), (3, 2, DEBUGGER)],
+            name: "é.js",
+            problems: &[(9, 10, "One."), (12, 3, "'é😀'."), (100, 200, "")],
             report: "
-a.js
-  1:1  error  Unexpected 'debugger' statement.  no-debugger
-  3:2  error  Unexpected 'debugger' statement.  no-debugger
-
-✖ 2 problems (2 errors, 0 warnings)
-",
-        },
-        Case {
-            name: "src/é.js",
-            problems: &[
-                (9, 10, "Short."),
-                (12, 3, "Unexpected 'é😀'."),
-                (100, 200, ""),
-            ],
-            report: "
-src/é.js
-  9:10     error  Short.            no-debugger
-  12:3     error  Unexpected 'é😀'.  no-debugger
-  100:200  error                    no-debugger
+é.js
+  9:10     error  One.   r
+  12:3     error  'é😀'.  r
+  100:200  error         r
 
 ✖ 3 problems (3 errors, 0 warnings)
 ",
@@ -200,7 +195,7 @@ src/é.js
                     column: *column,
                 },
                 text: Txt::new(alloc, text)?,
-                rule: Txt::new(alloc, "no-debugger")?,
+                rule: Txt::new(alloc, "r")?,
             })?;
         }
         Ok(problems)

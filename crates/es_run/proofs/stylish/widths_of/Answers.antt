@@ -1,8 +1,7 @@
 use Rattle.std.proofs.Common.{arith}
 use Rattle.std.proofs.lemmas.Grind.{common_steps}
 use Rattle.es_run.proofs.StylishLemmas.{widest-step}
-use Rattle.es_run.specs.Stylish.{place_text}
-use Rattle.es_run.specs.declared.stylish.Problem.{Problem}
+use Rattle.es_run.specs.Stylish.{Problem, place_text}
 use Rattle.es_run.proofs.stylish.widths_of.Goals as goal
 
 pub loop-problem-preserved : goal.loop-problem-preserved
