@@ -16,6 +16,8 @@ use std::{env, io};
 
 #[cfg(test)]
 mod tests;
+#[cfg(test)]
+mod watch;
 
 fn main(rt: HostRuntime) -> ExitCode {
     let status = match words(&rt) {

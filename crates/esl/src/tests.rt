@@ -1,3 +1,4 @@
+use crate::watch::Watch;
 use es_files::{MemoryFiles, MemorySink};
 use es_host::{Kit, Rule};
 use es_rules_plain::NoDebugger;
@@ -6,11 +7,7 @@ use std::alloc::Global;
 use std::process::Abort;
 use std::test::Fail;
 
-const REPORT: &str =
-    "\na.js\n  1:1  error  Unexpected 'debugger' statement.  no-debugger\n  3:2  error  Unexpected 'debugger' statement.  no-debugger\n\n✖ 2 problems (2 errors, 0 warnings)\n";
-
-/// A run of the words over files in memory: the status, what it printed, what it told, and how often
-/// its kit listened.
+/// A run over files in memory: the status, what it printed, what it told, and how often its kit listened.
 #[derive(Drop)]
 struct Ran {
     status: Status,
@@ -19,46 +16,44 @@ struct Ran {
     lints: u64,
 }
 
+/// Runs the rules over `a.js`. The output takes the first `left` bytes of its first call, which then fails.
 fn run_over(
     alloc: Global,
-    words: &[&str],
+    rules: Vec<Box<dyn Rule + Send>>,
     files: &mut MemoryFiles,
-    print_fails: bool,
+    left: Option<u64>,
 ) -> Result<Ran, Fail> {
-    let mut owned = Vec::new(alloc);
-    for word in words {
-        owned.push(String::from_str(alloc, word)?)?;
-    }
-    let mut out = MemorySink::new(alloc)?;
-    let mut err = MemorySink::new(alloc)?;
-    if print_fails {
-        out.fail(alloc, 1, 3)?;
-    }
-    let mut rules: Vec<Box<dyn Rule + Send>> = Vec::new(alloc);
-    rules.push(Box::new(alloc, NoDebugger::new(alloc)?)?)?;
+    let mut words = Vec::new(alloc);
+    words.push(String::from_str(alloc, "a.js")?)?;
     let mut kits = Vec::new(alloc);
     kits.push(Kit::new(rules))?;
+    let mut out = MemorySink::new(alloc)?;
+    let mut err = MemorySink::new(alloc)?;
+    if let Some(left) = left {
+        out.fail(alloc, 1, left)?;
+    }
     let status = run(
         alloc,
-        owned.as_slice(),
+        words.as_slice(),
         &mut kits,
         files,
         &mut out,
         &mut err,
     );
+    let lints = kits[0].lints();
     Ok(Ran {
         status,
         out,
         err,
-        lints: kits[0].lints(),
+        lints,
     })
 }
 
-/// Whether the run ended with this status, printed this text, and told this line.
-fn expect(rt: &impl Abort, ran: &Ran, status: u8, out: &str, err: &str) {
-    assert_eq!(rt; status_code(&ran.status), status);
-    assert_eq!(rt; ran.out.got(), out.as_bytes());
-    assert_eq!(rt; ran.err.got(), err.as_bytes());
+/// The rule of the program.
+fn plain_rules(alloc: Global) -> Result<Vec<Box<dyn Rule + Send>>, Fail> {
+    let mut rules: Vec<Box<dyn Rule + Send>> = Vec::new(alloc);
+    rules.push(Box::new(alloc, NoDebugger::new(alloc)?)?)?;
+    Ok(rules)
 }
 
 /// Files in memory, of which `a.js` holds the text.
@@ -68,12 +63,45 @@ fn files_of(alloc: Global, text: &str) -> Result<MemoryFiles, Fail> {
     Ok(files)
 }
 
+/// Asserts that the run ended with this status, printed this text, and told this line.
+fn expect(rt: &impl Abort, ran: &Ran, status: u8, out: &str, err: &str) {
+    assert_eq!(rt; status_code(&ran.status), status);
+    assert_eq!(rt; ran.out.got(), out.as_bytes());
+    assert_eq!(rt; ran.err.got(), err.as_bytes());
+}
+
 #[test]
-fn debuggers_are_reported(rt: HostRuntime) -> Result<(), Fail> {
-    let mut files = files_of(rt.alloc(), "debugger;\na;\n{debugger;}\n")?;
-    let ran = run_over(rt.alloc(), &["a.js"], &mut files, false)?;
-    expect(&rt, &ran, 1, REPORT, "");
+fn a_report_is_printed(rt: HostRuntime) -> Result<(), Fail> {
+    let report = "
+a.js
+  1:2  error  Unexpected 'debugger' statement.  no-debugger
+
+✖ 1 problem (1 error, 0 warnings)
+";
+    let mut files = files_of(rt.alloc(), "\tdebugger\t;")?;
+    let ran = run_over(rt.alloc(), plain_rules(rt.alloc())?, &mut files, None)?;
+    expect(&rt, &ran, 1, report, "");
     assert_eq!(rt; ran.lints, 1);
+    Ok(())
+}
+
+/// Two rules on `a;;`: the first says the place of each empty statement, the second that of each name.
+#[test]
+fn reports_of_two_rules_stand_by_their_places(rt: HostRuntime) -> Result<(), Fail> {
+    let report = "
+a.js
+  1:1  error  name   name
+  1:3  error  empty  empty
+
+✖ 2 problems (2 errors, 0 warnings)
+";
+    let alloc = rt.alloc();
+    let mut rules: Vec<Box<dyn Rule + Send>> = Vec::new(alloc);
+    rules.push(Box::new(alloc, Watch::new(alloc, "empty", false)?)?)?;
+    rules.push(Box::new(alloc, Watch::new(alloc, "name", true)?)?)?;
+    let mut files = files_of(alloc, "a;;\n")?;
+    let ran = run_over(alloc, rules, &mut files, None)?;
+    expect(&rt, &ran, 1, report, "");
     Ok(())
 }
 
@@ -81,16 +109,29 @@ fn debuggers_are_reported(rt: HostRuntime) -> Result<(), Fail> {
 fn a_failed_read_stops_a_run(rt: HostRuntime) -> Result<(), Fail> {
     let mut files = files_of(rt.alloc(), "debugger;")?;
     files.fail(rt.alloc(), false, 1, 0)?;
-    let ran = run_over(rt.alloc(), &["a.js"], &mut files, false)?;
+    let ran = run_over(rt.alloc(), plain_rules(rt.alloc())?, &mut files, None)?;
     expect(&rt, &ran, 2, "", "esl: cannot read: a.js\n");
     assert_eq!(rt; ran.lints, 0);
     Ok(())
 }
 
+/// The output is one write, also where it is empty.
 #[test]
 fn a_failed_print_stops_a_run(rt: HostRuntime) -> Result<(), Fail> {
-    let mut files = files_of(rt.alloc(), "debugger;")?;
-    let ran = run_over(rt.alloc(), &["a.js"], &mut files, true)?;
-    expect(&rt, &ran, 2, "\na.", "esl: cannot print\n");
+    for (text, printed) in [("debugger;", "\na."), ("a;\n", "")] {
+        let mut files = files_of(rt.alloc(), text)?;
+        let ran = run_over(rt.alloc(), plain_rules(rt.alloc())?, &mut files, Some(3))?;
+        expect(&rt, &ran, 2, printed, "esl: cannot print\n");
+    }
+    Ok(())
+}
+
+/// The program's own run, but for its words: a name that no file has.
+#[test]
+fn a_missing_file_stops_the_program(rt: HostRuntime) -> Result<(), Fail> {
+    let mut words = Vec::new(rt.alloc());
+    words.push(String::from_str(rt.alloc(), "missing/a.js")?)?;
+    let status = crate::lint(&rt, words.as_slice())?;
+    assert_eq!(rt; status_code(&status), 2);
     Ok(())
 }

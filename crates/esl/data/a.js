@@ -1,0 +1,3 @@
+debugger;
+a;
+{debugger;}
