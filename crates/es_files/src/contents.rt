@@ -37,6 +37,7 @@ impl Contents {
         }
     }
 
+    /// What the name holds, or `None` exactly where it is not held.
     pub fn get(&self, name: &str) -> Option<&[u8]>
         ensures { option_copied result ≡ map.get self.now name.now }
     {
@@ -46,7 +47,7 @@ impl Contents {
         }
     }
 
-    /// Makes the name hold the bytes, in place of what it held.
+    /// Makes the name hold the bytes, in place of what it held. `NoMemory` leaves all as it was.
     pub fn put(&mut self, alloc: Global, name: &str, bytes: &[u8]) -> Result<(), NoMemory>
         ensures ok { OnOk result (self.new ≡ map.insert self.old name.now bytes.now) }
         ensures err { OnErr result (self.new ≡ self.old) }
@@ -57,7 +58,9 @@ impl Contents {
         Ok(())
     }
 
-    /// A copy of what the name holds, where it is at most `limit` bytes.
+    /// A copy of what the name holds, where it is at most `limit` bytes. `Missing` comes where the
+    /// name isn't held, `TooLong` where it holds more, and `NoMemory` where there is none for the
+    /// copy.
     pub fn read(&self, alloc: Global, name: &str, limit: u64) -> Result<Vec<u8>, ReadFault>
         ensures ok { IfOk result (λ bytes. map.get self.now name.now ≡ Some bytes.items) }
         ensures within { IfOk result (λ bytes. length bytes.items ≤ limit) }

@@ -24,6 +24,7 @@ impl Model for FailedCall {
 }
 
 impl FailedCall {
+    /// Copies the name.
     pub fn new(alloc: Global, name: &str, writes: bool) -> Result<FailedCall, NoMemory>
         ensures { IfOk result (λ call. call ≡ record { name = name.now; writes = writes }) }
     {

@@ -52,6 +52,7 @@ impl MemoryFiles {
     }
 
     /// Makes the name hold the bytes, in place of what it held. It counts as no call.
+    /// `NoMemory` leaves all as it was.
     pub fn hold(&mut self, alloc: Global, name: &str, bytes: &[u8]) -> Result<(), NoMemory>
         ensures ok { OnOk result (self.new ≡ with_held self.old name.now bytes.now) }
         ensures err { OnErr result (self.new ≡ self.old) }
@@ -95,9 +96,11 @@ impl MemoryFiles {
         self.faults = self.faults.saturating_add(1);
     }
 
+    /// Counts the failed read, and gives its fault.
     fn fail_read(&mut self, alloc: Global, name: &str) -> ReadFault
         ensures answer { (result ≡ ReadFault.Failed) ⊎ (result ≡ ReadFault.NoMemory) }
-        ensures failed { result ≡ ReadFault.Failed → self.new ≡ with_fault self.old (reading name.now) }
+        ensures failed { result ≡ ReadFault.Failed →
+            self.new ≡ with_fault self.old (reading name.now) }
         ensures no_memory { result ≡ ReadFault.NoMemory → self.new ≡ self.old }
         ensures later { self.old.faults ≤ self.new.faults }
     {
@@ -110,6 +113,7 @@ impl MemoryFiles {
         }
     }
 
+    /// Leaves the first part of the bytes, counts the failed write, and gives its fault.
     fn fail_write(&mut self, alloc: Global, name: &str, part: &[u8]) -> WriteFault
         ensures failed { result ≡ WriteFault.Failed →
             self.new ≡ with_fault (with_held self.old name.now part.now) (writing name.now) }
@@ -165,7 +169,8 @@ impl Files for MemoryFiles {
     }
 
     fn write(&mut self, alloc: Global, name: &str, bytes: &[u8]) -> Result<(), WriteFault>
-        ensures ok { OnOk result (self.new ≡ with_held (write_counted self.old) name.now bytes.now) }
+        ensures ok { OnOk result
+            (self.new ≡ with_held (write_counted self.old) name.now bytes.now) }
         ensures unplanned { OnOk result (next_failure self.old.writes ≡ None) }
         ensures failed { result ≡ Err WriteFault.Failed →
             IsFailedWrite self.old name.now bytes.now self.new }
@@ -197,7 +202,11 @@ impl Model for MemorySink {
 
     ghost coded = { coded_sink };
 
-    ghost view = { λ sink. record { got = sink.bytes.items; faults = sink.faults; writes = sink.writes } };
+    ghost view = { λ sink. record {
+      got = sink.bytes.items;
+      faults = sink.faults;
+      writes = sink.writes;
+    } };
 }
 
 impl MemorySink {
@@ -212,8 +221,9 @@ impl MemorySink {
         })
     }
 
-    /// The call of this number, counted from 1 since `new`, is to fail. It takes the first `left` of
-    /// its bytes, all where there are fewer. Of several entries for one call the last given one holds.
+    /// The call of this number, counted from 1 since `new`, is to fail. It takes the first `left`
+    /// of its bytes, all where there are fewer. Of several entries for one call the last given one
+    /// holds.
     pub fn fail(&mut self, _alloc: Global, call: u64, left: u64) -> Result<(), NoMemory>
         ensures ok { OnOk result (self.new ≡ with_planned_send self.old call left) }
         ensures err { OnErr result (self.new ≡ self.old) }

@@ -12,6 +12,7 @@ pub enum ReadFault {
     TooLong,
     /// The outside failed.
     Failed,
+    /// Out of memory.
     NoMemory,
 }
 
@@ -20,6 +21,7 @@ pub enum ReadFault {
 pub enum WriteFault {
     /// The outside failed. A first part of the bytes may have been written.
     Failed,
+    /// Out of memory.
     NoMemory,
 }
 
@@ -28,13 +30,14 @@ pub enum WriteFault {
 pub enum SinkFault {
     /// The outside failed. A first part of the bytes may have been sent.
     Failed,
+    /// Out of memory.
     NoMemory,
 }
 
 /// Files under their names.
 pub trait Files {
-    /// What is held under which name, where this is told; how many calls have failed, up to the last
-    /// value of a count; and the last call that failed.
+    /// What is held under which name, where this is told; how many calls have failed, up to the
+    /// last value of a count; and the last call that failed.
     ghost state: { Self → FilesState };
 
     /// The bytes of a file, where they are at most `limit` bytes.
@@ -68,14 +71,14 @@ pub trait Files {
 
 /// What takes bytes, one after the other.
 pub trait Sink {
-    /// What it was sent, where this is told, and how many calls have failed, up to the last value of a
-    /// count.
+    /// What it was sent, where this is told, and how many calls have failed, up to the last value
+    /// of a count.
     ghost state: { Self → SinkState };
 
     /// Sends the bytes.
     ///
-    /// `Failed` comes only where the count of faults rises; a first part of the bytes was then sent.
-    /// `NoMemory` leaves all as it was.
+    /// `Failed` comes only where the count of faults rises; a first part of the bytes was then
+    /// sent. `NoMemory` leaves all as it was.
     fn write(&mut self, alloc: Global, bytes: &[u8]) -> Result<(), SinkFault>
         ensures ok { OnOk result (state self.new ≡ with_sent (state self.old) bytes.now) }
         ensures failed { result ≡ Err SinkFault.Failed →

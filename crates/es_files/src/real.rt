@@ -12,6 +12,9 @@ use std::marker::Model;
 use std::{fs, io};
 
 /// The files of the machine. They tell no contents.
+///
+/// A name that isn't there is `Missing`; every other fault of opening, reading or writing is
+/// `Failed`.
 #[derive(Drop)]
 pub struct RealFiles<'a, R: fs::Files> {
     rt: &'a R,
@@ -30,6 +33,7 @@ impl<'a, R: fs::Files> Model for RealFiles<'a, R> {
 }
 
 impl<'a, R: fs::Files> RealFiles<'a, R> {
+    /// The files that the runtime reaches. No call has failed.
     pub fn new(rt: &'a R) -> RealFiles<'a, R>
         ensures { result ≡ no_faults }
     {
@@ -51,6 +55,7 @@ impl<'a, R: fs::Files> RealFiles<'a, R> {
     }
 }
 
+/// Reads the file of this name. Only a name that isn't there is missing.
 fn read_named<R: fs::Files>(
     rt: &R,
     alloc: Global,
@@ -71,6 +76,7 @@ fn read_named<R: fs::Files>(
     }
 }
 
+/// Makes a file of this name hold the bytes, in place of what it held.
 fn write_named<R: fs::Files>(rt: &R, name: &str, bytes: &[u8]) -> io::Result<()> {
     let mut file = fs::create(rt, name)?;
     write_whole(&mut file, bytes)
@@ -123,6 +129,7 @@ impl<'a, R: Print> Model for RealOut<'a, R> {
 }
 
 impl<'a, R: Print> RealOut<'a, R> {
+    /// What the runtime prints to. No call has failed.
     pub fn new(rt: &'a R) -> RealOut<'a, R>
         ensures { result ≡ 0 }
     {
@@ -163,7 +170,7 @@ impl<W: Write + Drop> Model for RealErr<W> {
 }
 
 impl<W: Write + Drop> RealErr<W> {
-    /// Takes the stream, which for the program is the runtime's `stderr()`.
+    /// Takes the stream, which for the program is the runtime's `stderr()`. No call has failed.
     pub fn new(stream: W) -> RealErr<W>
         ensures { result ≡ 0 }
     {

@@ -5,8 +5,8 @@ use std::io;
 use std::io::{ErrorKind, Read, Write};
 use std::test::Fail;
 
-/// Gives at most two bytes at a time. Each first try of a read is interrupted, and so, if it is broken,
-/// a read at its end fails.
+/// Gives at most two bytes at a time. Each first try of a read is interrupted, and so, if it is
+/// broken, a read at its end fails.
 #[derive(Drop)]
 struct Slow<'a> {
     rest: &'a [u8],
@@ -32,7 +32,8 @@ impl Read for Slow<'_> {
 
 #[test]
 fn an_interrupted_read_goes_on(rt: HostRuntime) {
-    // The limit, whether the reader breaks, the fault if any, and how many of the five bytes are left.
+    // The limit, whether the reader breaks, the fault if any, and how many of the five bytes are
+    // left.
     let cases: [(u64, bool, Option<ReadFault>, usize); 5] = [
         (u64::MAX, false, None, 0),
         (5, false, None, 0),
@@ -57,7 +58,8 @@ fn an_interrupted_read_goes_on(rt: HostRuntime) {
     }
 }
 
-/// Takes at most two bytes at a time, and up to `room` in all. Each first try of a write is interrupted.
+/// Takes at most two bytes at a time, and up to `room` in all. Each first try of a write is
+/// interrupted.
 #[derive(Drop)]
 struct Tape {
     got: Vec<u8>,

@@ -12,8 +12,8 @@ use std::io::{ErrorKind, Read, Write};
 /// How many bytes one read asks for.
 const CHUNK: usize = 8192;
 
-/// How many bytes the next read asks for, where `count` bytes of at most `limit` were read: one more
-/// than may follow, so that a longer text shows, and no more than `CHUNK`.
+/// How many bytes the next read asks for, where `count` bytes of at most `limit` were read: one
+/// more than may follow, so that a longer text shows, and no more than `CHUNK`.
 fn next_size(limit: u64, count: usize) -> usize
     requires { count ≤ limit }
     ensures some { 0 < result }
@@ -30,7 +30,8 @@ fn next_size(limit: u64, count: usize) -> usize
 
 /// All that the reader has left, where it is at most `limit` bytes. It takes at most one byte more.
 pub fn read_within<R: Read>(alloc: Global, reader: &mut R, limit: u64) -> Result<Vec<u8>, ReadFault>
-    ensures all { IfOk result (λ bytes. ForSome (R.remaining reader.old) (λ left. bytes.items ≡ left)) }
+    ensures all { IfOk result (λ bytes.
+        ForSome (R.remaining reader.old) (λ left. bytes.items ≡ left)) }
     ensures within { IfOk result (λ bytes. length bytes.items ≤ limit) }
     ensures long { result ≡ Err ReadFault.TooLong →
         ForSome (R.remaining reader.old) (λ left. limit < length left) }

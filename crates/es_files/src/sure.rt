@@ -35,7 +35,7 @@ impl SureFiles {
         })
     }
 
-    /// Makes the name hold the bytes, in place of what it held.
+    /// Makes the name hold the bytes, in place of what it held. `NoMemory` leaves all as it was.
     pub fn hold(&mut self, alloc: Global, name: &str, bytes: &[u8]) -> Result<(), NoMemory>
         ensures ok { OnOk result (self.new ≡ map.insert self.old name.now bytes.now) }
         ensures err { OnErr result (self.new ≡ self.old) }

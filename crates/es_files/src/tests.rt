@@ -129,8 +129,8 @@ fn a_real_file_is_written_and_read(rt: HostRuntime) -> Result<(), Fail> {
     Ok(())
 }
 
-/// Only a name that isn't there is missing: a folder, and a name below a file, can't be read, nor can a
-/// name below a folder that isn't there be written.
+/// Only a name that isn't there is missing: a folder, and a name below a file, can't be read, nor
+/// can a name below a folder that isn't there be written.
 #[test]
 fn other_real_names_fail(rt: HostRuntime) -> Result<(), Fail> {
     let file = temporary(&rt, "below")?;

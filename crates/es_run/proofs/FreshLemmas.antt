@@ -15,11 +15,11 @@ use Rattle.es_run.specs.Fresh.{Answer, Fresh, Given, bad_words, named, OfName, n
 use Rattle.es_run.specs.Order.{IsInOrder}
 use Rattle.es_run.specs.SmallText.{IsSmallText}
 use Rattle.es_run.specs.Stages.{Foretells, IsReportOn, answer_of, fault_of}
-use Rattle.es_run.specs.Words.{Names, NoName}
-use Rattle.es_run.proofs.Orders.{one_order}
+use Rattle.es_run.specs.Arguments.{Names, NoName}
+use Rattle.es_run.proofs.OrderLemmas.{one_order}
 
-first_word : {a b : List ℕ} → a ∷ [] ≡ b ∷ [] → a ≡ b
-first_word h = cc
+first_argument : {a b : List ℕ} → a ∷ [] ≡ b ∷ [] → a ≡ b
+first_argument h = cc
 
 some_bytes : {a b : List ℕ} → Some a ≡ Some b → a ≡ b
 some_bytes h = cc
@@ -27,12 +27,12 @@ some_bytes h = cc
 none_some : {a : List ℕ} → None ≡ Some a → ⊥
 none_some h = absurd (cc)
 
--- words that name no file
-no_name_only : (given : Given) → NoName given.words → (other : Answer) → Fresh given other → other ≡ stopped BadWords
+-- arguments that name no file
+no_name_only : (given : Given) → NoName given.arguments → (other : Answer) → Fresh given other → other ≡ stopped BadWords
 no_name_only given none other (bad_words none' is) = is
 no_name_only given none other (named name names of) = absurd (none name names)
 
-pub no_name_answer : (given : Given) → NoName given.words → IsTheAnswer given (stopped BadWords)
+pub no_name_answer : (given : Given) → NoName given.arguments → IsTheAnswer given (stopped BadWords)
 no_name_answer given none = record { gives = bad_words none refl; only = no_name_only given none }
 
 -- the answer for a name, and for no other
@@ -40,13 +40,13 @@ pub record IsOfName (says : File → List Report) (name : List ℕ) (found : Opt
   pub gives : OfName says name found answer
   pub only : (other : Answer) → OfName says name found other → other ≡ answer
 
-named_only : (given : Given) (name : List ℕ) (answer : Answer) → Names given.words name →
+named_only : (given : Given) (name : List ℕ) (answer : Answer) → Names given.arguments name →
     IsOfName given.says name (finite.get given.held name) answer → (other : Answer) → Fresh given other → other ≡ answer
 named_only given name answer names of other (bad_words none is) = absurd (none name names)
 named_only given name answer names of other (named name' names' of') =
-    of.only other (subst (λ n. OfName given.says n (finite.get given.held n) other) (first_word (sym names'.0 ∙ names.0)) of')
+    of.only other (subst (λ n. OfName given.says n (finite.get given.held n) other) (first_argument (sym names'.0 ∙ names.0)) of')
 
-named_answer : (given : Given) (name : List ℕ) (answer : Answer) → Names given.words name →
+named_answer : (given : Given) (name : List ℕ) (answer : Answer) → Names given.arguments name →
     IsOfName given.says name (finite.get given.held name) answer → IsTheAnswer given answer
 named_answer given name answer names of =
     record { gives = named name names of.gives; only = named_only given name answer names of }
@@ -110,7 +110,7 @@ module _ (says : File → List Report) where
 
 module _ (given : Given) where
   -- a fault of reading the name, where it says what is held
-  pub fault_answer : (name shown : List ℕ) (fault : ReadFault) → Names given.words name → shown ≡ chars name →
+  pub fault_answer : (name shown : List ℕ) (fault : ReadFault) → Names given.arguments name → shown ≡ chars name →
       (fault ≡ read.Missing → finite.get given.held name ≡ None) → (fault ≡ read.TooLong → HoldsMore given.held name most_bytes) →
       Foretells given (Err (fault_of fault shown))
   fault_answer name shown read.Missing names is missing long = λ settled.
@@ -126,14 +126,14 @@ module _ (given : Given) where
   fault_answer name shown read.NoMemory names is missing long = tt
 
   -- the report on the bytes of the name
-  pub report_answer : (name bytes : List ℕ) (outcome : Outcome) → Names given.words name → finite.get given.held name ≡ Some bytes →
+  pub report_answer : (name bytes : List ℕ) (outcome : Outcome) → Names given.arguments name → finite.get given.held name ≡ Some bytes →
       length bytes ≤ most_bytes → IsReportOn given.says name bytes outcome → IsTheAnswer given (answer_of outcome)
   report_answer name bytes outcome names some short on =
       named_answer given name (answer_of outcome) names
       (linted_of given.says name bytes (finite.get given.held name) outcome some short on)
 
   -- bytes of the name that are no small text
-  pub no_report_answer : (name shown bytes : List ℕ) → Names given.words name → shown ≡ chars name →
+  pub no_report_answer : (name shown bytes : List ℕ) → Names given.arguments name → shown ≡ chars name →
       finite.get given.held name ≡ Some bytes → ((body : List Shape) → IsSmallText bytes body → ⊥) →
       IsTheAnswer given (stopped (NotYet shown))
   no_report_answer name shown bytes names is some none =

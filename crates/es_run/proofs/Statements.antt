@@ -9,7 +9,7 @@ use Rattle.es_tree.specs.declared.kind.TheConstants.{EMPTY_STATEMENT, BLOCK_STAT
 use Rattle.es_run.specs.Characters.{is_separator, is_name_part}
 use Rattle.es_run.specs.SmallText.{Statement, Statements, empty, word, block, word_statement, leaf, with_children}
 use Rattle.es_run.specs.Reading.{BeginsWith, BeginsWithNone, BeginsWithAll, NoStatements}
-use Rattle.es_run.proofs.CharacterLemmas.{IsPlain, name_part_plain, prefix_len-run, separator_no_part}
+use Rattle.es_run.proofs.CharactersLemmas.{IsPlain, name_part_plain, prefix_len-run, separator_no_part}
 
 -- lists: equal heads, equal tails, equal halves
 pub heads : {c d : ℕ} {cs ds : List ℕ} → c ∷ cs ≡ d ∷ ds → c ≡ d

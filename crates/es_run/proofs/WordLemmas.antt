@@ -8,7 +8,7 @@ use Rattle.es_tree.specs.declared.shape.Shape.{Shape}
 use Rattle.es_run.specs.Characters.{is_separator, is_name_part}
 use Rattle.es_run.specs.SmallText.{word_statement}
 use Rattle.es_run.specs.Reading.{BeginsWith, BeginsWithNone}
-use Rattle.es_run.proofs.CharacterLemmas.{list_all-front}
+use Rattle.es_run.proofs.CharactersLemmas.{list_all-front}
 use Rattle.es_run.proofs.Statements.{HasWord, first_is, same_behind, word_length, gap_length, word_found, word_missing, word_refused}
 
 -- the element at a place is the first one from there on

@@ -1,5 +1,5 @@
--- A fresh run: what is printed, told and answered, by what the rules say of a file, by the words and by what is held.
--- Nothing here knows of a fault of the outside, nor of want of memory.
+-- A fresh run: what is printed, told and answered, by what the rules say of a file, by the arguments and by what is held.
+-- Nothing here knows of a fault of the outside, nor of being out of memory.
 use Rattle.std.specs.Prelude.{◌≡◌, ℕ, ◌<◌, ◌≤◌, ◌⊎◌, List, [], ◌∷◌, length, map, Option, Some, None, unwrap_or}
 use Rattle.std.specs.Str.{chars}
 use Rattle.std.specs.FinMap as finite
@@ -17,12 +17,12 @@ use Rattle.es_run.specs.Order.{IsInOrder}
 use Rattle.es_run.specs.SmallText.{IsSmallText, program}
 use Rattle.es_run.specs.Statuses.{fault_line}
 use Rattle.es_run.specs.Stylish.{Problem, stylish_of}
-use Rattle.es_run.specs.Words.{Names, NoName}
+use Rattle.es_run.specs.Arguments.{Names, NoName}
 
--- what a run is given: what the rules say of a file, the words as their bytes, and what is held
+-- what a run is given: what the rules say of a file, the arguments as their bytes, and what is held
 pub record Given : Type 0 where
   pub says : File → List Report
-  pub words : List (List ℕ)
+  pub arguments : List (List ℕ)
   pub held : Held
 
 -- what a run gives: its status, its output, and its line on standard error
@@ -86,8 +86,8 @@ pub data OfName (says : File → List Report) (name : List ℕ) (found : Option 
 
 -- the answer of a fresh run
 pub data Fresh (given : Given) (answer : Answer) : Type 0 where
-  bad_words : NoName given.words → answer ≡ stopped BadWords → Fresh given answer
-  named : (name : List ℕ) → Names given.words name → OfName given.says name (finite.get given.held name) answer →
+  bad_words : NoName given.arguments → answer ≡ stopped BadWords → Fresh given answer
+  named : (name : List ℕ) → Names given.arguments name → OfName given.says name (finite.get given.held name) answer →
       Fresh given answer
 
 -- a fresh run gives this answer and no other

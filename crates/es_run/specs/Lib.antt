@@ -1,3 +1,4 @@
+pub mod Arguments
 pub mod Characters
 pub mod Found
 pub mod Fresh
@@ -10,4 +11,3 @@ pub mod SmallText
 pub mod Stages
 pub mod Statuses
 pub mod Stylish
-pub mod Words

@@ -8,7 +8,7 @@ use Rattle.es_text.specs.declared.finding.Report.{Report}
 abbrev pub start_of : Report → ℕ
 start_of report = report.span.start
 
--- the given reports by the starts of their spans, and those that start at one place as they were given
+-- the given reports by the starts of their spans, and those that start at one offset as they were given
 pub record IsInOrder (given ordered : List Report) : Type 0 where
   pub permutation : IsPermutation given ordered
   pub sorted : IsSortedByKey start_of nat_cmp ordered

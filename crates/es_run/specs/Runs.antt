@@ -9,11 +9,11 @@ use Rattle.es_run.specs.declared.status.Status.{Status}
 use Rattle.es_run.specs.declared.status.Status.TheVariants.{Clean, Problems, Stopped, NoMemory}
 use Rattle.es_run.specs.declared.status.StopCause.TheVariants.{BadWords, NoFile, NotYet, CannotRead, CannotPrint}
 use Rattle.es_run.specs.Fresh.{Answer, Given, IsTheAnswer}
-use Rattle.es_run.specs.Words.{Names}
+use Rattle.es_run.specs.Arguments.{Names}
 
 -- ---- statuses
 
--- the status is one that a fresh run can have: no fault of the outside and no want of memory
+-- the status is one that a fresh run can have: no fault of the outside, and not out of memory
 abbrev pub IsSettled : Status → Type 0
 IsSettled Clean = Unit {0}
 IsSettled Problems = Unit {0}
@@ -54,15 +54,15 @@ abbrev pub IfCannotRead : Status → (List ℕ → Type 0) → Type 0
 IfCannotRead (Stopped (CannotRead name)) P = P name
 IfCannotRead _ P = Unit {0}
 
--- the status is this one, or memory was wanting
+-- the status is this one, or the run was out of memory
 abbrev pub IsUnlessNoMemory : Status → Status → Type 0
 IsUnlessNoMemory status result = (result ≡ status) ⊎ (result ≡ NoMemory)
 
 -- ---- what a run does
 
--- what a run is given, by its words
+-- what a run is given
 abbrev pub given : (File → List Report) → List (String Global) → Held → Given
-given says words held = record { says = says; words = map string_bytes words; held = held }
+given says arguments held = record { says = says; arguments = map string_bytes arguments; held = held }
 
 -- the two sinks of a run
 pub record Sinks : Type 0 where
@@ -91,9 +91,9 @@ pub record PrintsPart (given : Given) (before now : SinkState) : Type 0 where
   pub silent : answer.line ≡ []
   pub part : SentPart before answer.output now
 
--- a failed read is to blame: the last failed call is the read of the name in the words, which is this one
-pub record IsUnread (words : List (List ℕ)) (name : List ℕ) (before now : FilesState) : Type 0 where
-  pub word : List ℕ
-  pub names : Names words word
-  pub same : name ≡ chars word
-  pub failed : HasFailed before (reading word) now
+-- a failed read is to blame: the last failed call is the read of the file that the arguments name, which is this one
+pub record IsUnread (arguments : List (List ℕ)) (name : List ℕ) (before now : FilesState) : Type 0 where
+  pub file : List ℕ
+  pub names : Names arguments file
+  pub same : name ≡ chars file
+  pub failed : HasFailed before (reading file) now

@@ -18,7 +18,7 @@ use Rattle.es_run.specs.Order.{IsInOrder}
 use Rattle.es_run.specs.Runs.{IsSettled, IsUnread}
 use Rattle.es_run.specs.SmallText.{IsSmallText}
 use Rattle.es_run.specs.Stylish.{stylish_of}
-use Rattle.es_run.specs.Words.{NoName}
+use Rattle.es_run.specs.Arguments.{NoName}
 
 -- the status of a run that printed its report
 abbrev pub done_status : Bool → Status
@@ -58,20 +58,20 @@ Foretells given (Err fault.NoMemory) = Unit {0}
 
 -- what each fault of the stages before the printing is to blame on, whatever is told of the files
 abbrev pub Blames : List (List ℕ) → FilesState → FilesState → Fault → Type 0
-Blames words before now (fault.Stop cause.BadWords) = NoName words × (now ≡ before)
-Blames words before now (fault.Stop (cause.NoFile name)) = now ≡ before
-Blames words before now (fault.Stop (cause.NotYet name)) = now ≡ before
-Blames words before now (fault.Stop (cause.CannotRead name)) = IsUnread words name before now
-Blames words before now (fault.Stop cause.CannotPrint) = ⊥
-Blames words before now fault.NoMemory = Unit {0}
+Blames arguments before now (fault.Stop cause.BadWords) = NoName arguments × (now ≡ before)
+Blames arguments before now (fault.Stop (cause.NoFile name)) = now ≡ before
+Blames arguments before now (fault.Stop (cause.NotYet name)) = now ≡ before
+Blames arguments before now (fault.Stop (cause.CannotRead name)) = IsUnread arguments name before now
+Blames arguments before now (fault.Stop cause.CannotPrint) = ⊥
+Blames arguments before now fault.NoMemory = Unit {0}
 
--- the first kit listens where there is a report, and may have listened where memory was wanting; others never do
+-- the first kit listens where there is a report, and may have listened where the run was out of memory; others never do
 abbrev pub Listened : Result Outcome Fault → List ℕ → List ℕ → Type 0
 Listened (Ok outcome) before now = now ≡ first_ticked before
 Listened (Err (fault.Stop why)) before now = now ≡ before
 Listened (Err fault.NoMemory) before now = ListensAtMostOnce before now
 
--- a run that printed its report has its status, or printing it failed, or memory was wanting
+-- a run that printed its report has its status, or printing it failed, or it was out of memory
 abbrev pub IsPrintStatus : Bool → Status → Type 0
 IsPrintStatus clean result =
     (result ≡ done_status clean) ⊎ ((result ≡ status.Stopped cause.CannotPrint) ⊎ (result ≡ status.NoMemory))

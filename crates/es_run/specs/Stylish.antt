@@ -23,9 +23,13 @@ abbrev pub widest : List (List ℕ) → ℕ
 widest [] = 0
 widest (text ∷ texts) = max (length text) (widest texts)
 
+-- a space
+abbrev pub space : ℕ
+space = 32
+
 -- the text, with spaces at its right up to the width
 abbrev pub padded : ℕ → List ℕ → List ℕ
-padded width text = text ++ replicate (width - length text) 32
+padded width text = text ++ replicate (width - length text) space
 
 -- the line of one problem, where the places and the messages of the file have these widths
 abbrev pub problem_line : ℕ → ℕ → Problem → List ℕ
@@ -53,10 +57,14 @@ ending_of number = if number == 1 then [] else codes "s"
 abbrev pub counted : ℕ → List ℕ → List ℕ
 counted number noun = decimal number ++ (codes " " ++ (noun ++ ending_of number))
 
--- `✖ N problems (N errors, 0 warnings)`, where ✖ is U+2716
+-- ✖
+abbrev pub heavy_cross : ℕ
+heavy_cross = 0x2716
+
+-- `✖ N problems (N errors, 0 warnings)`
 abbrev pub summary : ℕ → List ℕ
 summary number =
-    0x2716 ∷ codes " " ++ (counted number (codes "problem")
+    heavy_cross ∷ codes " " ++ (counted number (codes "problem")
     ++ (codes " (" ++ (counted number (codes "error")
     ++ (codes ", " ++ (counted 0 (codes "warning") ++ codes ")")))))
 

@@ -1,6 +1,8 @@
-//! One run of the program, from the words and the held bytes to the printed report and the status.
+//! One run of the program, from its arguments and the held bytes to the printed report and the
+//! status.
 #![tactic(auto)]
 
+mod arguments;
 mod characters;
 mod order;
 mod report;
@@ -8,7 +10,6 @@ mod runner;
 mod small;
 mod status;
 mod stylish;
-mod words;
 
 pub use runner::run;
 pub use status::{Status, StopCause, status_code};

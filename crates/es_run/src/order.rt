@@ -4,8 +4,8 @@ ghost use Rattle.es_run.specs.Order.{IsInOrder};
 use es_text::{NoMemory, Report};
 use std::alloc::Global;
 
-/// The reports in the order of their spans' starts. Those that start at one place keep the order in
-/// which they came.
+/// The reports in the order of their spans' starts. Those that start at one offset keep the order
+/// in which they came.
 pub(crate) fn in_order(alloc: Global, mut reports: Vec<Report>) -> Result<Vec<Report>, NoMemory>
     ensures { IfOk result (λ ordered. IsInOrder reports.items ordered.items) }
 {

@@ -17,7 +17,7 @@ fn report_at(alloc: Global, order: u32, start: u32) -> Result<Report, NoMemory> 
 
 #[test]
 fn reports_stand_by_their_starts(rt: HostRuntime) -> Result<(), Fail> {
-    // The starts as they are given, and the places that the given reports have in the answer.
+    // The starts as they are given, and the indices that the reports of the answer had.
     let cases: [([u32; 3], [u32; 3]); 4] = [
         ([5, 2, 5], [1, 0, 2]),
         ([5, 5, 2], [2, 0, 1]),

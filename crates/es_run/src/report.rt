@@ -98,7 +98,8 @@ fn problems_of(
     source: &Source,
     reports: Vec<Report>,
 ) -> Result<Vec<Problem>, NoMemory>
-    requires { list_all (λ report. is_part (text_bytes source.now) report.span) reports.items ≡ true }
+    requires { list_all (λ report. is_part (text_bytes source.now) report.span) reports.items
+        ≡ true }
     ensures { IfOk result (λ problems.
         problems.items ≡ map (problem_of source.now.characters) reports.items) }
 {

@@ -1,4 +1,4 @@
-//! The run: words, file, report, status.
+//! The run: arguments, file, report, status.
 ghost use Rattle.std.specs.Prelude.{◌≡◌, ◌≤◌, ◌⊎◌, ℕ, List, [], Err, map, string_bytes, length, OnOk, IfOk, IfErr};
 ghost use Rattle.std.specs.Cow.{cow_str_bytes};
 ghost use Rattle.std.specs.Option.{ForSome};
@@ -7,12 +7,12 @@ ghost use Rattle.es_run.specs.Kits.{ListensAtMostOnce, first_says, first_ticked,
 ghost use Rattle.es_run.specs.Runs.{DoesAsFresh, IfCannotRead, IsDone, IsReported, IsSettled, IsSilent, IsTold, IsUnlessNoMemory, IsUnread, PrintsPart, given, sinks};
 ghost use Rattle.es_run.specs.Stages.{Blames, Foretells, IsPrintStatus, Listened, done_status, fault_of};
 ghost use Rattle.es_run.specs.Statuses.{fault_line, line_about};
-ghost use Rattle.es_run.specs.Words.{NoName};
+ghost use Rattle.es_run.specs.Arguments.{NoName};
 ghost use Rattle.es_run.specs.declared.status.StopCause.{StopCause};
 
+use crate::arguments::name_of;
 use crate::report::{Outcome, report_on};
 use crate::status::{Fault, Status, StopCause};
-use crate::words::name_of;
 use es_files::{Files, ReadFault, Sink, SinkFault};
 use es_host::{Kit, Rule};
 use es_text::{NoMemory, Txt};
@@ -34,7 +34,7 @@ fn fault_of(fault: ReadFault, name: Txt) -> Fault
     }
 }
 
-/// Tells that memory is wanting, where that can be told.
+/// Tells that it is out of memory, where that can be told.
 fn no_memory<E: Sink>(alloc: Global, err: &mut E) -> Status
     ensures { result ≡ Status.NoMemory }
 {
@@ -45,7 +45,8 @@ fn no_memory<E: Sink>(alloc: Global, err: &mut E) -> Status
 /// Tells the line of the cause. A failed write changes nothing else.
 fn stop<E: Sink>(alloc: Global, cause: StopCause, line: &str, err: &mut E) -> Status
     ensures status { IsUnlessNoMemory (Status.Stopped cause) result }
-    ensures told { result ≡ Status.Stopped cause → IsTold (E.state err.old) line.now (E.state err.new) }
+    ensures told { result ≡ Status.Stopped cause →
+        IsTold (E.state err.old) line.now (E.state err.new) }
 {
     match err.write(alloc, line.as_bytes()) {
         Err(SinkFault::NoMemory) => no_memory(alloc, err),
@@ -99,7 +100,7 @@ fn refuse<E: Sink>(alloc: Global, cause: StopCause, err: &mut E) -> Status
     }
 }
 
-/// What the first kit says of the file that the words name.
+/// What the first kit says of the file that the arguments name.
 fn lint<R: Rule, F: Files>(
     alloc: Global,
     words: &[String],
@@ -114,20 +115,22 @@ fn lint<R: Rule, F: Files>(
     ensures lints { Listened result (lints_of kits.old.items) (lints_of kits.new.items) }
     ensures fresh { ForSome (F.state files.old).holds (λ held.
         Foretells (given (first_says R.id R.says kits.old.items) words.now held) result) }
-    ensures blame { IfErr result (Blames (map string_bytes words.now) (F.state files.old) (F.state files.new)) }
+    ensures blame { IfErr result
+        (Blames (map string_bytes words.now) (F.state files.old) (F.state files.new)) }
     ensures still { OnOk result (F.state files.new ≡ F.state files.old) }
-    ensures words { NoName (map string_bytes words.now) → result ≡ Err (Fault.Stop StopCause.BadWords) }
+    ensures no_name { NoName (map string_bytes words.now) →
+        result ≡ Err (Fault.Stop StopCause.BadWords) }
     ensures later { (F.state files.old).faults ≤ (F.state files.new).faults }
 {
-    let Some(word) = name_of(words) else {
+    let Some(file) = name_of(words) else {
         return Err(Fault::Stop(StopCause::BadWords));
     };
-    let name = Txt::new(alloc, word)?;
-    let bytes = match files.read(alloc, word, MOST_BYTES) {
+    let name = Txt::new(alloc, file)?;
+    let bytes = match files.read(alloc, file, MOST_BYTES) {
         Ok(bytes) => bytes,
         Err(fault) => return Err(fault_of(fault, name)),
     };
-    match report_on(alloc, word, bytes.as_slice(), &mut kits[0])? {
+    match report_on(alloc, file, bytes.as_slice(), &mut kits[0])? {
         Some(outcome) => Ok(outcome),
         None => Err(Fault::Stop(StopCause::NotYet { name })),
     }
@@ -164,8 +167,11 @@ fn done(clean: bool) -> Status
     }
 }
 
-/// Lints the file that the words name with the first kit, and prints the report. The program's own
-/// name is none of the words.
+/// Lints the file that the arguments `words` name with the first kit, and prints the report on
+/// `out`, as one piece, also where it is empty. The program's own name is none of the arguments.
+///
+/// A run that stops tells its cause on `err`, in one line, and prints nothing, or a first part
+/// where printing failed. The files are only read, and no rule changes its meaning.
 pub fn run<R: Rule, F: Files, O: Sink, E: Sink>(
     alloc: Global,
     words: &[String],
@@ -184,13 +190,14 @@ pub fn run<R: Rule, F: Files, O: Sink, E: Sink>(
         DoesAsFresh (given (first_says R.id R.says kits.old.items) words.now held) result
         (sinks (O.state out.old) (E.state err.old)) (sinks (O.state out.new) (E.state err.new))) }
 
-    // Without a fault of the outside the status is settled, or memory was wanting.
+    // Without a fault of the outside the status is settled, or it was out of memory.
     ensures complete { (FilesFailed (F.state files.old) (F.state files.new) → ⊥) →
         (SinkFailed (O.state out.old) (O.state out.new) → ⊥) →
         IsSettled result ⊎ (result ≡ Status.NoMemory) }
 
-    // The words alone decide on `BadWords`.
-    ensures bad_words { result ≡ Status.Stopped StopCause.BadWords → NoName (map string_bytes words.now) }
+    // The arguments alone decide on `BadWords`.
+    ensures bad_words { result ≡ Status.Stopped StopCause.BadWords →
+        NoName (map string_bytes words.now) }
     ensures no_name { NoName (map string_bytes words.now) →
         IsUnlessNoMemory (Status.Stopped StopCause.BadWords) result }
 
@@ -199,7 +206,8 @@ pub fn run<R: Rule, F: Files, O: Sink, E: Sink>(
         IsUnread (map string_bytes words.now) name (F.state files.old) (F.state files.new)) }
     ensures cannot_print { result ≡ Status.Stopped StopCause.CannotPrint →
         SinkFailed (O.state out.old) (O.state out.new) }
-    ensures part { result ≡ Status.Stopped StopCause.CannotPrint → ForSome (F.state files.old).holds (λ held.
+    ensures part { result ≡ Status.Stopped StopCause.CannotPrint →
+        ForSome (F.state files.old).holds (λ held.
         PrintsPart (given (first_says R.id R.says kits.old.items) words.now held)
         (O.state out.old) (O.state out.new)) }
 
@@ -225,7 +233,8 @@ pub fn run<R: Rule, F: Files, O: Sink, E: Sink>(
     ensures says { of_rules R.says kits.new.items ≡ of_rules R.says kits.old.items }
 
     // The first kit listens once where there is a report, and no other ever does.
-    ensures listens { IsReported result → lints_of kits.new.items ≡ first_ticked (lints_of kits.old.items) }
+    ensures listens { IsReported result →
+        lints_of kits.new.items ≡ first_ticked (lints_of kits.old.items) }
     ensures rests { IsSilent result → lints_of kits.new.items ≡ lints_of kits.old.items }
     ensures once { ListensAtMostOnce (lints_of kits.old.items) (lints_of kits.new.items) }
 {

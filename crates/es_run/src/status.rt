@@ -12,14 +12,14 @@ pub enum Status {
     Problems,
     /// The run stopped, for this cause.
     Stopped(StopCause),
-    /// Memory was wanting.
+    /// The run was out of memory.
     NoMemory,
 }
 
 /// Why a run stopped.
 #[derive(Debug, Drop)]
 pub enum StopCause {
-    /// The words aren't one file's name.
+    /// The arguments aren't one file's name.
     BadWords,
     /// No file has this name.
     NoFile { name: Txt },
@@ -34,7 +34,9 @@ pub enum StopCause {
 /// Why no report could be made.
 #[derive(Debug, Drop)]
 pub(crate) enum Fault {
+    /// The run stops, for this cause.
     Stop(StopCause),
+    /// Out of memory.
     NoMemory,
 }
 
@@ -49,8 +51,8 @@ impl From<NoMemory> for Fault {
     }
 }
 
-/// The exit status of the program: 0 and 1 where it read the file, 2 where it stopped, and 3 for want
-/// of memory.
+/// The exit status of the program: 0 and 1 where it read the file, 2 where it stopped, and 3 where
+/// it was out of memory.
 pub fn status_code(status: &Status) -> u8
     ensures { result ≡ status_code_of status.now }
 {

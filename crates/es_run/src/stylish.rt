@@ -21,7 +21,11 @@ impl Model for Problem {
 
     ghost Value = { stylish.Problem };
 
-    ghost view = { λ problem. record { place = problem.place; text = problem.text; rule = problem.rule } };
+    ghost view = { λ problem. record {
+      place = problem.place;
+      text = problem.text;
+      rule = problem.rule;
+    } };
 }
 
 /// The widths of a file's places and messages, in characters.
@@ -45,7 +49,8 @@ pub(crate) fn stylish(alloc: Global, name: &str, problems: &[Problem]) -> Result
 
 /// One line for each problem.
 fn lines_text(alloc: Global, problems: &[Problem]) -> Result<String, NoMemory>
-    ensures { IfOk result (λ lines. string_bytes lines ≡ encode_utf8_all (problem_lines problems.now)) }
+    ensures { IfOk result (λ lines.
+        string_bytes lines ≡ encode_utf8_all (problem_lines problems.now)) }
 {
     let widths = widths_of(alloc, problems)?;
     let mut lines = String::new(alloc);
@@ -58,7 +63,8 @@ fn lines_text(alloc: Global, problems: &[Problem]) -> Result<String, NoMemory>
 
 /// The line of one problem.
 fn line_text(alloc: Global, problem: &Problem, widths: Widths) -> Result<String, NoMemory>
-    ensures { IfOk result (λ line. string_bytes line ≡ encode_utf8_all (problem_line widths.place widths.text problem.now)) }
+    ensures { IfOk result (λ line. string_bytes line ≡
+        encode_utf8_all (problem_line widths.place widths.text problem.now)) }
 {
     let place = padded_place(alloc, problem.place, widths.place)?;
     let text = padded_text(alloc, problem.text.as_str(), widths.text)?;
@@ -92,7 +98,8 @@ fn place_of(alloc: Global, place: Place) -> Result<String, NoMemory>
 
 /// `LINE:COLUMN` with spaces at its right up to the width.
 fn padded_place(alloc: Global, place: Place, width: usize) -> Result<String, NoMemory>
-    ensures { IfOk result (λ text. string_bytes text ≡ encode_utf8_all (padded width (place_text place))) }
+    ensures { IfOk result (λ text.
+        string_bytes text ≡ encode_utf8_all (padded width (place_text place))) }
 {
     let place = place_of(alloc, place)?;
     padded_text(alloc, place.as_str(), width)
@@ -100,7 +107,8 @@ fn padded_place(alloc: Global, place: Place, width: usize) -> Result<String, NoM
 
 /// The text with spaces at its right up to the width, in characters.
 fn padded_text(alloc: Global, text: &str, width: usize) -> Result<String, NoMemory>
-    ensures { IfOk result (λ wide. string_bytes wide ≡ encode_utf8_all (padded width (chars text.now))) }
+    ensures { IfOk result (λ wide.
+        string_bytes wide ≡ encode_utf8_all (padded width (chars text.now))) }
 {
     let mut wide = String::from_str(alloc, text)?;
     for _ in 0..width.saturating_sub(char_count(text)) {
@@ -155,7 +163,8 @@ mod tests {
         report: &'static str,
     }
 
-    // The columns are as wide as their widest text, counted in characters; nouns follow their number.
+    // The columns are as wide as their widest text, counted in characters; nouns follow their
+    // number.
     static CASES: [Case; 3] = [
         Case {
             name: "a.js",

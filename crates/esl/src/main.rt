@@ -1,5 +1,5 @@
-//! The program `esl`: lints the file that its words name with the rules that it boxes here, and ends with
-//! the status of the run.
+//! The program `esl`: lints the file that its arguments name with the rules that it boxes here, and
+//! ends with the status of the run.
 #![tactic(auto)]
 
 ghost use Rattle.std.specs.Prelude.{◌≡◌, ◌≢◌};
@@ -20,8 +20,8 @@ mod tests;
 mod watch;
 
 fn main(rt: HostRuntime) -> ExitCode {
-    let status = match words(&rt) {
-        Ok(words) => match lint(&rt, words.as_slice()) {
+    let status = match arguments(&rt) {
+        Ok(arguments) => match lint(&rt, arguments.as_slice()) {
             Ok(status) => status,
             Err(NoMemory) => no_memory(&rt),
         },
@@ -31,7 +31,7 @@ fn main(rt: HostRuntime) -> ExitCode {
 }
 
 /// Makes the kit, the files and the streams, and runs.
-fn lint(rt: &HostRuntime, words: &[String]) -> Result<Status, NoMemory> {
+fn lint(rt: &HostRuntime, arguments: &[String]) -> Result<Status, NoMemory> {
     let alloc = rt.alloc();
     let mut rules: Vec<Box<dyn Rule + Send>> = Vec::new(alloc);
     rules.push(Box::new(alloc, NoDebugger::new(alloc)?)?)?;
@@ -40,19 +40,20 @@ fn lint(rt: &HostRuntime, words: &[String]) -> Result<Status, NoMemory> {
     let mut files = RealFiles::new(rt);
     let mut out = RealOut::new(rt);
     let mut err = RealErr::new(rt.stderr());
-    Ok(es_run::run(alloc, words, &mut kits, &mut files, &mut out, &mut err))
+    Ok(es_run::run(alloc, arguments, &mut kits, &mut files, &mut out, &mut err))
 }
 
-/// The words after the program's own name.
-fn words(rt: &HostRuntime) -> io::Result<Vec<String>> {
-    let words = env::args(rt)?.skip(1).collect(rt.alloc())?;
-    Ok(words)
+/// The arguments, without the program's own name.
+fn arguments(rt: &HostRuntime) -> io::Result<Vec<String>> {
+    let arguments = env::args(rt)?.skip(1).collect(rt.alloc())?;
+    Ok(arguments)
 }
 
-/// Tells why the words couldn't be had: memory was wanting, or one isn't UTF-8, as each name is.
+/// Tells why the arguments couldn't be had: out of memory, or one isn't UTF-8, as each name is.
 fn refuse(rt: &HostRuntime, error: &io::Error) -> Status
     ensures no_memory { error_kind error.now ≡ ErrorKind.OutOfMemory → result ≡ Status.NoMemory }
-    ensures bad_words { error_kind error.now ≢ ErrorKind.OutOfMemory → result ≡ Status.Stopped StopCause.BadWords }
+    ensures bad_words { error_kind error.now ≢ ErrorKind.OutOfMemory →
+        result ≡ Status.Stopped StopCause.BadWords }
 {
     if error.kind() == ErrorKind::OutOfMemory {
         no_memory(rt)
@@ -63,7 +64,7 @@ fn refuse(rt: &HostRuntime, error: &io::Error) -> Status
     }
 }
 
-/// Tells that memory is wanting, where that can be told.
+/// Tells that the program is out of memory, where that can be told.
 fn no_memory(rt: &HostRuntime) -> Status
     ensures { result ≡ Status.NoMemory }
 {

@@ -7,7 +7,8 @@ use std::alloc::Global;
 use std::process::Abort;
 use std::test::Fail;
 
-/// A run over files in memory: the status, what it printed, what it told, and how often its kit listened.
+/// A run over files in memory: the status, what it printed, what it told, and how often its kit
+/// listened.
 #[derive(Drop)]
 struct Ran {
     status: Status,
@@ -16,15 +17,16 @@ struct Ran {
     lints: u64,
 }
 
-/// Runs the rules over `a.js`. The output takes the first `left` bytes of its first call, which then fails.
+/// Runs the rules over `a.js`. The output takes the first `left` bytes of its first call, which
+/// then fails.
 fn run_over(
     alloc: Global,
     rules: Vec<Box<dyn Rule + Send>>,
     files: &mut MemoryFiles,
     left: Option<u64>,
 ) -> Result<Ran, Fail> {
-    let mut words = Vec::new(alloc);
-    words.push(String::from_str(alloc, "a.js")?)?;
+    let mut arguments = Vec::new(alloc);
+    arguments.push(String::from_str(alloc, "a.js")?)?;
     let mut kits = Vec::new(alloc);
     kits.push(Kit::new(rules))?;
     let mut out = MemorySink::new(alloc)?;
@@ -34,7 +36,7 @@ fn run_over(
     }
     let status = run(
         alloc,
-        words.as_slice(),
+        arguments.as_slice(),
         &mut kits,
         files,
         &mut out,
@@ -85,7 +87,8 @@ a.js
     Ok(())
 }
 
-/// Two rules on `a;;`: the first says the place of each empty statement, the second that of each name.
+/// Two rules on `a;;`: the first says the place of each empty statement, the second that of each
+/// name.
 #[test]
 fn reports_of_two_rules_stand_by_their_places(rt: HostRuntime) -> Result<(), Fail> {
     let report = "
@@ -126,12 +129,12 @@ fn a_failed_print_stops_a_run(rt: HostRuntime) -> Result<(), Fail> {
     Ok(())
 }
 
-/// The program's own run, but for its words: a name that no file has.
+/// What the program does with a name that no file has.
 #[test]
 fn a_missing_file_stops_the_program(rt: HostRuntime) -> Result<(), Fail> {
-    let mut words = Vec::new(rt.alloc());
-    words.push(String::from_str(rt.alloc(), "missing/a.js")?)?;
-    let status = crate::lint(&rt, words.as_slice())?;
+    let mut arguments = Vec::new(rt.alloc());
+    arguments.push(String::from_str(rt.alloc(), "missing/a.js")?)?;
+    let status = crate::lint(&rt, arguments.as_slice())?;
     assert_eq!(rt; status_code(&status), 2);
     Ok(())
 }

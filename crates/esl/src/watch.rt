@@ -34,9 +34,16 @@ impl Rule for Watch {
 
     ghost interest = { λ rule. (if rule.names then IDENTIFIER ∷ [] else EMPTY_STATEMENT ∷ []) };
 
-    ghost says = { λ rule file. map (λ event. record { span = unwrap_or (entered_span file event) (record { start = 0; end = 0 }); text = rule.id; fix = None }) (entries file.rows (if rule.names then IDENTIFIER ∷ [] else EMPTY_STATEMENT ∷ []) (length file.rows)) };
+    ghost says = { λ rule file. map (λ event. record {
+      span = unwrap_or (entered_span file event) (record { start = 0; end = 0 });
+      text = rule.id;
+      fix = None;
+    })
+        (entries file.rows (if rule.names then IDENTIFIER ∷ [] else EMPTY_STATEMENT ∷ [])
+        (length file.rows)) };
 
-    ghost heard = { λ rule file events. map (λ span. Some span) rule.spans.items ≡ map (entered_span file) events };
+    ghost heard = { λ rule file events.
+        map (λ span. Some span) rule.spans.items ≡ map (entered_span file) events };
 
     fn id(&self) -> &str {
         self.id.as_str()
@@ -66,7 +73,8 @@ impl Rule for Watch {
 }
 
 fn findings_at(alloc: Global, text: &Txt, spans: &[Span]) -> Result<Vec<Finding>, NoMemory>
-    ensures { IfOk result (λ findings. findings.items ≡ map (λ span. record { span = span; text = text.now; fix = None }) spans.now) }
+    ensures { IfOk result (λ findings. findings.items
+        ≡ map (λ span. record { span = span; text = text.now; fix = None }) spans.now) }
 {
     let mut findings = Vec::new(alloc);
     for span in spans {

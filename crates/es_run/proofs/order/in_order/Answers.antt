@@ -1,7 +1,7 @@
 use Rattle.std.proofs.Common.{rules}
 use Rattle.std.proofs.lemmas.List.Sorted.{answers_always}
 use Rattle.es_run.specs.Order.{start_of}
-use Rattle.es_run.proofs.Orders.{in_order_in_whole}
+use Rattle.es_run.proofs.OrderLemmas.{in_order_in_whole}
 use Rattle.es_run.proofs.order.in_order.Goals as goal
 
 pub returns : goal.returns

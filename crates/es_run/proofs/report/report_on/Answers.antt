@@ -4,7 +4,7 @@ use Rattle.es_host.specs.Reports.{kit_says}
 use Rattle.es_run.specs.Inside.{Parses}
 use Rattle.es_run.specs.Order.{IsInOrder}
 use Rattle.es_run.proofs.Parts.{parts_in_order}
-use Rattle.es_run.proofs.ReportLemmas.{small_fits, report_lemma}
+use Rattle.es_run.proofs.StagesLemmas.{small_fits, report_lemma}
 use Rattle.es_run.proofs.report.report_on.Goals as goal
 
 pub listen-requires : goal.listen-requires

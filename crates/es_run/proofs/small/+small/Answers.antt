@@ -4,7 +4,7 @@ use Rattle.es_tree.specs.Shapes.{height}
 use Rattle.es_run.specs.SmallText.{with_children}
 use Rattle.es_run.specs.Found.{IsFront, AreFront}
 use Rattle.es_run.specs.Inside.{AreInside, IsInside}
-use Rattle.es_run.proofs.CharacterLemmas.{never}
+use Rattle.es_run.proofs.CharactersLemmas.{never}
 use Rattle.es_run.proofs.InsideLemmas.{AreInside-push}
 use Rattle.es_run.proofs.Sequences.{ReadSoFar, read_nothing}
 use Rattle.es_run.proofs.Parsing.{block_zero, block_none, block_unclosed, block_closed, semicolon_here, begins_some, begins_within, past_separator, past_statement, no_statement, at_end, at_close, greatest_height-push}

@@ -1,7 +1,7 @@
 use Rattle.std.proofs.Common.{◌∙◌, sym, subst, refl, arith}
 use Rattle.std.specs.Prelude.{IfSome}
 use Rattle.es_run.specs.Inside.{IsInside}
-use Rattle.es_run.proofs.CharacterLemmas.{never}
+use Rattle.es_run.proofs.CharactersLemmas.{never}
 use Rattle.es_run.proofs.WordLemmas.{cut_here, no_semicolon_behind, no_statement_word, statement_word}
 use Rattle.es_run.proofs.small.word.Goals as goal
 

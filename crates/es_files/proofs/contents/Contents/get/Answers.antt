@@ -1,7 +1,7 @@
 use Rattle.std.proofs.Common.{Some, sym, ap, ◌∙◌}
 use Rattle.std.specs.Prelude.{option_map}
 use Rattle.std.specs.FinMap as map
-use Rattle.es_files.proofs.HeldLemmas.{get-held_of}
+use Rattle.es_files.proofs.SeenLemmas.{get-held_of}
 use Rattle.es_files.proofs.contents.Contents.get.Goals as goal
 
 pub returns-in-Some : goal.returns-in-Some

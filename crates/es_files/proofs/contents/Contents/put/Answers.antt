@@ -2,7 +2,7 @@ use Rattle.std.proofs.Common.{ap, ◌∙◌}
 use Rattle.std.specs.Prelude.{string_bytes}
 use Rattle.std.specs.FinMap as map
 use Rattle.es_files.specs.Seen.{held_of}
-use Rattle.es_files.proofs.HeldLemmas.{held_of-insert}
+use Rattle.es_files.proofs.SeenLemmas.{held_of-insert}
 use Rattle.es_files.proofs.contents.Contents.put.Goals as goal
 
 pub returns-clause-ok : goal.returns-clause-ok

@@ -1,6 +1,6 @@
 use Rattle.std.proofs.Common.{ap, ◌∙◌}
 use Rattle.es_files.specs.Fakes.{Calls, with_failure}
-use Rattle.es_files.proofs.NumberLemmas.{numbers_of-insert}
+use Rattle.es_files.proofs.SeenLemmas.{numbers_of-insert}
 use Rattle.es_files.proofs.plan.Plan.fail.Goals as goal
 
 pub returns-clause-ok : goal.returns-clause-ok

@@ -2,7 +2,7 @@ use Rattle.std.proofs.Common.{ℕ, sym, ap, ◌∙◌}
 use Rattle.std.specs.FinMap as map
 use Rattle.es_files.specs.Fakes.{next_failure}
 use Rattle.es_files.specs.Seen.{numbers_of}
-use Rattle.es_files.proofs.NumberLemmas.{get-numbers_of}
+use Rattle.es_files.proofs.SeenLemmas.{get-numbers_of}
 use Rattle.es_files.proofs.plan.Plan.next_call.Goals as goal
 
 pub returns-clause-planned : goal.returns-clause-planned
