@@ -1,5 +1,5 @@
 use crate::watch::Watch;
-use es_files::{MemoryFiles, MemorySink};
+use es_files::{MemoryFiles, MemorySink, Sink, SinkFault};
 use es_host::{Kit, Rule};
 use es_rules_plain::NoDebugger;
 use es_run::{Status, run, status_code};
@@ -17,6 +17,13 @@ struct Ran {
     lints: u64,
 }
 
+/// The arguments that are this name alone.
+fn name_alone(alloc: Global, name: &str) -> Result<Vec<String>, Fail> {
+    let mut arguments = Vec::new(alloc);
+    arguments.push(String::from_str(alloc, name)?)?;
+    Ok(arguments)
+}
+
 /// Runs the rules over `a.js`. The output takes the first `left` bytes of its first call, which
 /// then fails.
 fn run_over(
@@ -25,8 +32,7 @@ fn run_over(
     files: &mut MemoryFiles,
     left: Option<u64>,
 ) -> Result<Ran, Fail> {
-    let mut arguments = Vec::new(alloc);
-    arguments.push(String::from_str(alloc, "a.js")?)?;
+    let arguments = name_alone(alloc, "a.js")?;
     let mut kits = Vec::new(alloc);
     kits.push(Kit::new(rules))?;
     let mut out = MemorySink::new(alloc)?;
@@ -129,11 +135,44 @@ fn a_failed_print_stops_a_run(rt: HostRuntime) -> Result<(), Fail> {
     Ok(())
 }
 
+/// A sink that is always out of memory.
+#[derive(Drop)]
+struct Poor;
+
+impl Sink for Poor {
+    ghost use Rattle.std.specs.Prelude.{None};
+
+    ghost state = { λ _. record { got = None; faults = 0 } };
+
+    fn write(&mut self, _alloc: Global, _bytes: &[u8]) -> Result<(), SinkFault> {
+        Err(SinkFault::NoMemory)
+    }
+}
+
+#[test]
+fn a_run_tells_that_it_is_out_of_memory(rt: HostRuntime) -> Result<(), Fail> {
+    let mut files = files_of(rt.alloc(), "a;\n")?;
+    let mut kits = Vec::new(rt.alloc());
+    kits.push(Kit::new(plain_rules(rt.alloc())?))?;
+    let arguments = name_alone(rt.alloc(), "a.js")?;
+    let (mut out, mut err) = (Poor, MemorySink::new(rt.alloc())?);
+    let status = run(
+        rt.alloc(),
+        arguments.as_slice(),
+        &mut kits,
+        &mut files,
+        &mut out,
+        &mut err,
+    );
+    assert_eq!(rt; status_code(&status), 3);
+    assert_eq!(rt; err.got(), b"esl: no memory\n".as_slice());
+    Ok(())
+}
+
 /// What the program does with a name that no file has.
 #[test]
 fn a_missing_file_stops_the_program(rt: HostRuntime) -> Result<(), Fail> {
-    let mut arguments = Vec::new(rt.alloc());
-    arguments.push(String::from_str(rt.alloc(), "missing/a.js")?)?;
+    let arguments = name_alone(rt.alloc(), "missing/a.js")?;
     let status = crate::lint(&rt, arguments.as_slice())?;
     assert_eq!(rt; status_code(&status), 2);
     Ok(())
