@@ -79,5 +79,9 @@ pub fn push_at<T>(lists: &mut Items<Items<T>>, at: usize, item: T) -> Result<(),
     ensures back { IfErr result (λ refused. refused.value ≡ item) }
 {
     let list = &mut lists.items[at];
+    if list.items.is_empty() {
+        // Most lists of a tree keep one item. Where memory is short, the push tells so.
+        let _ = list.items.try_reserve_exact(1);
+    }
     list.push(item)
 }
