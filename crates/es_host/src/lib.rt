@@ -5,8 +5,6 @@ mod ctx;
 mod kit;
 mod rule;
 mod spans;
-#[cfg(test)]
-mod tests;
 mod walk;
 
 pub use ctx::Ctx;

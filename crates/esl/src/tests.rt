@@ -1,5 +1,5 @@
 use crate::watch::Watch;
-use es_files::{MemoryFiles, MemorySink, Sink, SinkFault};
+use es_files::{MemoryFiles, MemorySink, Sink, SinkFault, SureSink};
 use es_host::{Kit, Rule};
 use es_rules_plain::NoDebugger;
 use es_run::{Status, run, status_code};
@@ -106,11 +106,46 @@ a.js
 ";
     let alloc = rt.alloc();
     let mut rules: Vec<Box<dyn Rule + Send>> = Vec::new(alloc);
-    rules.push(Box::new(alloc, Watch::new(alloc, "empty", false)?)?)?;
-    rules.push(Box::new(alloc, Watch::new(alloc, "name", true)?)?)?;
+    rules.push(Box::new(alloc, Watch::new(alloc, "empty", false, 0)?)?)?;
+    rules.push(Box::new(alloc, Watch::new(alloc, "name", true, 0)?)?)?;
     let mut files = files_of(alloc, "a;;\n")?;
     let ran = run_over(alloc, rules, &mut files, None)?;
     expect(&rt, &ran, 1, report, "");
+    Ok(())
+}
+
+/// A rule that is out of memory stops the run, and the same kit listens again.
+#[test]
+fn a_kit_listens_again(rt: HostRuntime) -> Result<(), Fail> {
+    let alloc = rt.alloc();
+    let mut rules: Vec<Box<dyn Rule + Send>> = Vec::new(alloc);
+    rules.push(Box::new(alloc, Watch::new(alloc, "name", true, 1)?)?)?;
+    let mut kits = Vec::new(alloc);
+    kits.push(Kit::new(rules))?;
+    let mut files = files_of(alloc, "a;\n")?;
+    let arguments = name_alone(alloc, "a.js")?;
+    for status in [3, 1] {
+        let (mut out, mut err) = (SureSink::new(alloc)?, SureSink::new(alloc)?);
+        let found = run(
+            alloc,
+            arguments.as_slice(),
+            &mut kits,
+            &mut files,
+            &mut out,
+            &mut err,
+        );
+        assert_eq!(rt; status_code(&found), status);
+    }
+    assert_eq!(rt; kits[0].lints(), 2);
+    Ok(())
+}
+
+#[test]
+fn a_kit_without_rules_finds_nothing(rt: HostRuntime) -> Result<(), Fail> {
+    let mut files = files_of(rt.alloc(), "debugger;")?;
+    let ran = run_over(rt.alloc(), Vec::new(rt.alloc()), &mut files, None)?;
+    expect(&rt, &ran, 0, "", "");
+    assert_eq!(rt; ran.lints, 1);
     Ok(())
 }
 

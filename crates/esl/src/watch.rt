@@ -12,14 +12,22 @@ pub(crate) struct Watch {
     id: Txt,
     names: bool,
     spans: Vec<Span>,
+    /// How often it still answers that it is out of memory.
+    refusals: u32,
 }
 
 impl Watch {
-    pub(crate) fn new(alloc: Global, id: &str, names: bool) -> Result<Watch, NoMemory> {
+    pub(crate) fn new(
+        alloc: Global,
+        id: &str,
+        names: bool,
+        refusals: u32,
+    ) -> Result<Watch, NoMemory> {
         Ok(Watch {
             id: Txt::new(alloc, id)?,
             names,
             spans: Vec::new(alloc),
+            refusals,
         })
     }
 }
@@ -63,6 +71,10 @@ impl Rule for Watch {
     }
 
     fn on_node(&mut self, _alloc: Global, ctx: &Ctx, node: u32) -> Result<(), NoMemory> {
+        if self.refusals > 0 {
+            self.refusals -= 1;
+            return Err(NoMemory);
+        }
         self.spans.push(ctx.tree.span(node))?;
         Ok(())
     }

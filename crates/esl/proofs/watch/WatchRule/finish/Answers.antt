@@ -7,7 +7,7 @@ use Rattle.es_text.specs.declared.finding.Finding.{Finding}
 use Rattle.es_text.specs.declared.span.Span.{Span}
 use Rattle.es_text.specs.Texts.{Text, text_bytes}
 use Rattle.es_tree.specs.declared.kind.TheConstants.{EMPTY_STATEMENT, IDENTIFIER}
-use Rattle.es_tree.specs.declared.row.Row.{Row}
+use Rattle.es_tree.specs.Rows.{Row}
 use Rattle.es_tree.specs.Rows.{span_of}
 use Rattle.es_host.specs.Events.{entered_span, file_of, pair}
 use Rattle.es_host.specs.Lawful.{entered, hears}
