@@ -1,0 +1,7 @@
+mod Bits
+mod Closed
+mod FirstSetsLemmas
+mod RanksLemmas
+mod ReadingLemmas
+mod TerminalsLemmas
+mod TreesLemmas

@@ -1,0 +1,28 @@
+//! The grammar of ECMAScript 2022 as data: a rule for each symbol, in the order and mostly with the names
+//! of ECMA-262, and what a text reads by it.
+#![tactic(auto)]
+
+mod context;
+mod expressions;
+mod first;
+mod functions;
+mod law;
+mod modules;
+mod notation;
+mod part;
+mod rule;
+mod statements;
+mod symbol;
+mod terminal;
+#[cfg(test)]
+mod tests;
+
+pub use context::{Change, Context};
+pub use first::can_begin;
+pub use law::{one_answer, one_reading};
+pub use part::{
+    Alternative, Condition, Field, GREATEST_HEIGHT, MemberKind, Part, Product, ROOM, Rule,
+    Terminal, Turns,
+};
+pub use rule::rule_at;
+pub use symbol::Symbol;
