@@ -1,0 +1,11 @@
+use Rattle.std.proofs.Common.{sym, subst}
+use Rattle.es_fork.specs.Graphs.{AreOf}
+use Rattle.es_fork.specs.Walks.{IsGraph}
+use Rattle.es_fork.proofs.WalksLemmas.{graph_labelled}
+use Rattle.es_fork.proofs.graph.Graph.label.Goals as goal
+
+pub invariant_of-self-2 : goal.invariant_of-self-2
+invariant_of-self-2 c =
+    let within = subst (λ graph. AreOf graph.segments c.as_slice.result.now) (sym c.self.view_is) (subst (AreOf c.args.self.now.segments) (sym c.as_slice.ensures) c.requires.within) in
+    subst (λ segments. IsGraph (record { segments = segments; returned = c.self.inside.returned.items; thrown = c.self.inside.thrown.items })) (sym c.in_ok-put_labels.ensures.ok)
+    (graph_labelled _ c.as_slice.result.now c.args.label within c.self.invariant)

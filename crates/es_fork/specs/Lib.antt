@@ -1,0 +1,5 @@
+pub mod Graphs
+pub mod Walks
+pub mod Changes
+pub mod Forks
+pub mod Edges
