@@ -124,18 +124,12 @@ fn a_kit_listens_again(rt: HostRuntime) -> Result<(), Fail> {
     kits.push(Kit::new(rules))?;
     let mut files = files_of(alloc, "a;\n")?;
     let arguments = name_alone(alloc, "a.js")?;
-    for status in [3, 1] {
-        let (mut out, mut err) = (SureSink::new(alloc)?, SureSink::new(alloc)?);
-        let found = run(
-            alloc,
-            arguments.as_slice(),
-            &mut kits,
-            &mut files,
-            &mut out,
-            &mut err,
-        );
-        assert_eq!(rt; status_code(&found), status);
-    }
+    let (mut out, mut err) = (SureSink::new(alloc)?, SureSink::new(alloc)?);
+    let words = arguments.as_slice();
+    let first = run(alloc, words, &mut kits, &mut files, &mut out, &mut err);
+    let second = run(alloc, words, &mut kits, &mut files, &mut out, &mut err);
+    assert_eq!(rt; status_code(&first), 3);
+    assert_eq!(rt; status_code(&second), 1);
     assert_eq!(rt; kits[0].lints(), 2);
     Ok(())
 }
