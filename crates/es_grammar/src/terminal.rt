@@ -117,46 +117,10 @@ static SPELLINGS: [&str; 105] = [
     "meta",
 ];
 
-static KEYWORDS: [&str; 38] = [
-    "break",
-    "case",
-    "catch",
-    "class",
-    "const",
-    "continue",
-    "debugger",
-    "default",
-    "delete",
-    "do",
-    "else",
-    "enum",
-    "export",
-    "extends",
-    "false",
-    "finally",
-    "for",
-    "function",
-    "if",
-    "import",
-    "in",
-    "instanceof",
-    "let",
-    "new",
-    "null",
-    "return",
-    "super",
-    "switch",
-    "this",
-    "throw",
-    "true",
-    "try",
-    "typeof",
-    "var",
-    "void",
-    "while",
-    "with",
-    "yield",
-];
+/// How many of these are punctuators, and how many reserved words stand behind those.
+const PUNCTUATORS: usize = 57;
+
+const KEYWORDS: usize = 38;
 
 /// The texts of single tokens, in the order of their codes.
 fn texts() -> &'static [&'static str]
@@ -169,7 +133,7 @@ fn texts() -> &'static [&'static str]
 fn reserved() -> &'static [&'static str]
     ensures { map (λ text. text.now) result.now ≡ keyword_words }
 {
-    &KEYWORDS
+    &SPELLINGS[PUNCTUATORS..PUNCTUATORS + KEYWORDS]
 }
 
 /// Whether the text is one of these.
