@@ -75,73 +75,63 @@ fn script(alloc: Global) -> Result<Node, NoMemory>
     Ok(root)
 }
 
-// Kind, span, parent, and the children without holes: `f(a, [, b]);` by ESTree.
+// Kind, start and end, parent, and the first three children without holes: `f(a, [, b]);` by ESTree.
+static NODES: [(
+    u16,
+    u32,
+    u32,
+    Option<u32>,
+    Option<u32>,
+    Option<u32>,
+    Option<u32>,
+); 7] = [
+    (kind::PROGRAM, 0, 12, None, Some(1), None, None),
+    (
+        kind::EXPRESSION_STATEMENT,
+        0,
+        12,
+        Some(0),
+        Some(2),
+        None,
+        None,
+    ),
+    (
+        kind::CALL_EXPRESSION,
+        0,
+        11,
+        Some(1),
+        Some(3),
+        Some(4),
+        Some(5),
+    ),
+    (kind::IDENTIFIER, 0, 1, Some(2), None, None, None),
+    (kind::IDENTIFIER, 2, 3, Some(2), None, None, None),
+    (kind::ARRAY_EXPRESSION, 5, 10, Some(2), Some(6), None, None),
+    (kind::IDENTIFIER, 8, 9, Some(5), None, None, None),
+];
+
+/// The tree of `f(a, [, b]);`.
+fn script_tree(alloc: Global) -> Result<Tree, NoMemory> {
+    Tree::new(alloc, script(alloc)?)
+}
+
 #[test]
 fn nodes_by_number(rt: HostRuntime) -> Result<(), Fail> {
-    let root = script(rt.alloc())?;
-    assert_eq!(rt; root.height(), 5);
-    let tree = Tree::new(rt.alloc(), root)?;
-    assert_eq!(rt; tree.count(), 7);
-    let nodes = [
-        (
-            kind::PROGRAM,
-            Span { start: 0, end: 12 },
-            None,
-            [Some(1), None, None],
-        ),
-        (
-            kind::EXPRESSION_STATEMENT,
-            Span { start: 0, end: 12 },
-            Some(0),
-            [Some(2), None, None],
-        ),
-        (
-            kind::CALL_EXPRESSION,
-            Span { start: 0, end: 11 },
-            Some(1),
-            [Some(3), Some(4), Some(5)],
-        ),
-        (
-            kind::IDENTIFIER,
-            Span { start: 0, end: 1 },
-            Some(2),
-            [None, None, None],
-        ),
-        (
-            kind::IDENTIFIER,
-            Span { start: 2, end: 3 },
-            Some(2),
-            [None, None, None],
-        ),
-        (
-            kind::ARRAY_EXPRESSION,
-            Span { start: 5, end: 10 },
-            Some(2),
-            [Some(6), None, None],
-        ),
-        (
-            kind::IDENTIFIER,
-            Span { start: 8, end: 9 },
-            Some(5),
-            [None, None, None],
-        ),
-    ];
+    let tree = script_tree(rt.alloc())?;
     let mut number = 0;
-    for (kind, span, parent, children) in nodes {
+    for row in NODES.iter() {
+        let (kind, start, end, parent, first, second, third) = *row;
         if number < tree.count() {
             assert_eq!(rt; tree.kind(number), kind);
-            assert_eq!(rt; tree.span(number), span);
+            assert_eq!(rt; tree.span(number), Span { start, end });
             assert_eq!(rt; tree.parent(number), parent);
-            let found = [
-                tree.child(number, 0),
-                tree.child(number, 1),
-                tree.child(number, 2),
-            ];
-            assert_eq!(rt; found, children);
+            assert_eq!(rt; tree.child(number, 0), first);
+            assert_eq!(rt; tree.child(number, 1), second);
+            assert_eq!(rt; tree.child(number, 2), third);
             number += 1;
         }
     }
-    assert_eq!(rt; number, 7);
+    assert_eq!(rt; (number, tree.count()), (7, 7));
     Ok(())
 }
 
@@ -170,7 +160,7 @@ static PLACES: [(u32, u16, u32, Option<u32>); 14] = [
 
 #[test]
 fn children_by_field(rt: HostRuntime) -> Result<(), Fail> {
-    let tree = Tree::new(rt.alloc(), script(rt.alloc())?)?;
+    let tree = script_tree(rt.alloc())?;
     let copy = tree.copy(rt.alloc())?;
     for place in PLACES.iter() {
         let (node, field, index, child) = *place;
@@ -204,7 +194,7 @@ static ATTRIBUTES: [(u32, u16, Attribute<'static>); 11] = [
 
 #[test]
 fn attributes_by_field(rt: HostRuntime) -> Result<(), Fail> {
-    let tree = Tree::new(rt.alloc(), script(rt.alloc())?)?;
+    let tree = script_tree(rt.alloc())?;
     let copy = tree.copy(rt.alloc())?;
     for case in ATTRIBUTES.iter() {
         let (node, field, attribute) = *case;
