@@ -1,24 +1,12 @@
 -- Whether the spans of a tree, and those of what is said of it, lie in its text.
-use Rattle.std.specs.Prelude.{ℕ, Bool, true, Option, None, Some, ◌&&◌, ◌||◌, nat_le, nat_lt, slice_index, length, List}
+use Rattle.std.specs.Prelude.{ℕ, Bool, true, Option, None, Some, ◌&&◌, List}
 use Rattle.std.specs.List.{list_all}
 use Rattle.es_text.specs.declared.finding.Finding.{Finding}
 use Rattle.es_text.specs.declared.finding.Fix.{Fix}
 use Rattle.es_text.specs.declared.finding.Report.{Report}
-use Rattle.es_text.specs.declared.span.Span.{Span}
+pub use Rattle.es_text.specs.Spans.{begins_character, is_boundary, is_part}
 use Rattle.es_text.specs.Texts.{text_bytes}
 use Rattle.es_host.specs.Events.{File}
-
--- this byte of UTF-8 doesn't continue a character
-abbrev pub begins_character : ℕ → Bool
-begins_character byte = nat_lt byte 128 || nat_le 192 byte
-
--- a character begins at this byte, or the text ends there
-abbrev pub is_boundary : List ℕ → ℕ → Bool
-is_boundary bytes at = nat_le at (length bytes) && (nat_le (length bytes) at || begins_character (slice_index bytes at))
-
--- the span lies in the text, both ends on boundaries of characters, and doesn't start behind its end
-abbrev pub is_part : List ℕ → Span → Bool
-is_part bytes span = nat_le span.start span.end && (is_boundary bytes span.start && is_boundary bytes span.end)
 
 -- each node's span lies in the text
 abbrev pub spans_fit : File → Bool

@@ -49,6 +49,10 @@ first_is text at from start utf8 skips =
     sym (offset_rest text start.offset utf8 (boundary_in text start (skips.moves.text ∙ skips.text_is)))
     ∙ ap (offset_of text) (behind_is text at from start skips)
 
+pub first_boundary : (text : List ℕ) (at : ℕ) (from start : Cursor) → IsUtf8 text → Skips text at from start → IsCharBoundary text (first_offset text at)
+first_boundary text at from start utf8 skips =
+    subst (IsCharBoundary text) (first_is text at from start utf8 skips) (boundary_in text start (skips.moves.text ∙ skips.text_is))
+
 form_in : (text : List ℕ) (at : ℕ) (from start : Cursor) (m : LexMode) → Skips text at from start → form m (rest_of start) ≡ form m (behind_skipped text at)
 form_in text at from start m skips =
     ap (λ t. form m (rest t start.offset)) (skips.moves.text ∙ skips.text_is) ∙ ap (form m) (behind_is text at from start skips)

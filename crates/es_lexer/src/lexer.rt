@@ -1,7 +1,8 @@
 ghost use Rattle.std.specs.Prelude.{◌≡◌, ◌≤◌, ◌+◌, Some, None, IfOk, IfErr, OnErr};
 ghost use Rattle.std.specs.Str.{IsCharBoundary};
 ghost use Rattle.es_text.specs.Texts.{text_bytes};
-ghost use Rattle.es_text.specs.Tokens.{first_offset, token};
+ghost use Rattle.es_text.specs.Skipped.{hold_line};
+ghost use Rattle.es_text.specs.Tokens.{first_offset, skipped_at, token};
 
 use crate::cursor::Cursor;
 use crate::form::form_at;
@@ -36,6 +37,8 @@ pub fn next<L: Ledger>(
     ensures no_token { OnErr result (token (text_bytes source.now) at mode ≡ None) }
     ensures offset { IfErr result (λ fault.
         fault ≡ LexFault.NoToken (first_offset (text_bytes source.now) at)) }
+    ensures place { OnErr result (
+        IsCharBoundary (text_bytes source.now) (first_offset (text_bytes source.now) at)) }
     ensures ticks { steps.new ≡ steps.old + 1 }
 {
     steps.tick();
@@ -52,4 +55,12 @@ pub fn next<L: Ledger>(
         }),
         None => Err(LexFault::NoToken { at: start }),
     }
+}
+
+/// Whether a line ends in what is skipped from the offset `at` on. Takes time in the length of that.
+pub fn has_line(source: &Source, at: u32) -> bool
+    requires { IsCharBoundary (text_bytes source.now) at }
+    ensures { result ≡ hold_line (skipped_at (text_bytes source.now) at) }
+{
+    skip(Cursor::at(source.text(), at as usize)).line
 }

@@ -16,4 +16,4 @@ mod tests;
 
 pub use comment::comments;
 pub use es_text::LexMode;
-pub use lexer::{LexFault, next};
+pub use lexer::{LexFault, has_line, next};

@@ -1,8 +1,16 @@
+pub mod CommentsLemmas
 pub mod FoundLineLemmas
 pub mod LineEndLemmas
 pub mod LineStartLemmas
 pub mod ListLemmas
+pub mod NumbersLemmas
 pub mod PlaceLemmas
+pub mod ProductionsLemmas
+pub mod RestLemmas
+pub mod SkippedLemmas
+pub mod SpansLemmas
 pub mod TextLemmas
+pub mod TokensLemmas
 pub mod UnitCountLemmas
 pub mod UnitMarkLemmas
+pub mod WithinLemmas

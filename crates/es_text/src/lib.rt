@@ -4,6 +4,7 @@
 
 mod finding;
 mod items;
+mod law;
 mod memory;
 mod source;
 mod span;
@@ -16,6 +17,7 @@ mod unit_counts;
 
 pub use finding::{Finding, Fix, Report, Severity};
 pub use items::{Items, push_at};
+pub use law::{parts_lie, tokens_lie};
 pub use memory::NoMemory;
 pub use source::{MOST_BYTES, MOST_TEXT_BYTES, Source, SourceFault};
 pub use span::{Place, Span};

@@ -1,16 +1,19 @@
 -- The height of a tree to which a child is added.
-use Rattle.std.proofs.Common.{◌≡◌, ℕ, zero, suc, ◌+◌, ◌<◌, max, List, [], ◌∷◌, ◌++◌, length, replicate, arith, refl, subst, sym}
+use Rattle.std.proofs.Common.{◌≡◌, ◌∙◌, ap, sym, subst, ℕ, zero, suc, ◌+◌, ◌<◌, ◌≤◌, max, List, [], ◌∷◌, ◌++◌, length, replicate, arith, refl}
 use Rattle.std.specs.Prelude.{Option, Some, None, IsSome, slice_get}
 use Rattle.std.proofs.lemmas.List.{length-replicate}
 use Rattle.es_text.specs.declared.span.Span.{Span}
 use Rattle.es_text.specs.Lists.{pushed_at}
+use Rattle.es_tree.specs.declared.shape.SetAttribute.{SetAttribute}
 use Rattle.es_tree.specs.declared.shape.Shape.{Shape, out-Shape, roll-Shape}
 use Rattle.es_tree.specs.declared.shape.Shape.TheOpen.{Shape-F}
 use Rattle.es_tree.specs.declared.shape.Shape.TheShapes.{former-Shape-fields, former-Shape-fields-at-2}
 use Rattle.es_tree.specs.declared.shape.Shape.TheFolds.{fold-roll-Shape, fold_out-Shape}
-use Rattle.es_tree.specs.declared.shape.Shape.TheViews.{out-roll-Shape}
+use Rattle.es_tree.specs.declared.shape.Shape.TheViews.{out-roll-Shape, roll-out-Shape}
 use Rattle.es_tables.specs.Nodes.{HasField, child_fields}
-use Rattle.es_tree.specs.Shapes.{bare, HasNone, tallest, tallest_of_all, height_step, height, height_of, with_child}
+use Rattle.es_tree.specs.Shapes.{bare, HasNone, tallest, tallest_of_all, height_step, height, height_of, with_attribute, with_child}
+use Rattle.es_tree.specs.Attributes.{attributes_with}
+use Rattle.es_tree.specs.declared.shape.AttributeValue.{AttributeValue}
 
 -- the heights in place of the children, of one field and of all
 abbrev heights_in : List (Option Shape) → List (Option ℕ)
@@ -43,6 +46,34 @@ pub height-with_child : (shape : Shape) (at : ℕ) (child : Option Shape) → at
     → height (with_child shape at child) ≡ max (height shape) (height_of child + 1)
 height-with_child shape at child within =
     omega (arith, height_roll (record (out-Shape shape) { fields = pushed_at (out-Shape shape).fields at child }), height_out shape, tallest_of_all-push (out-Shape shape).fields at child within)
+
+not_lower : (fields : List (List (Option Shape))) (at : ℕ) (child : Option Shape)
+    → tallest_of_all (heights fields) ≤ tallest_of_all (heights (pushed_at fields at child))
+not_lower [] at child = omega arith
+not_lower (field ∷ rest) zero child = omega (arith, tallest-push field child)
+not_lower (field ∷ rest) (suc at) child = omega (arith, not_lower rest at child)
+
+-- a node is no lower with a child more
+pub never_lower : (shape : Shape) (at : ℕ) (child : Option Shape) → height shape ≤ height (with_child shape at child)
+never_lower shape at child =
+    omega (arith, height_roll (record (out-Shape shape) { fields = pushed_at (out-Shape shape).fields at child }), height_out shape, not_lower (out-Shape shape).fields at child)
+
+not_above : (fields : List (List (Option Shape))) (at : ℕ) (child : Option Shape)
+    → tallest_of_all (heights (pushed_at fields at child)) ≤ max (tallest_of_all (heights fields)) (height_of child)
+not_above [] at child = omega arith
+not_above (field ∷ rest) zero child = omega (arith, tallest-push field child)
+not_above (field ∷ rest) (suc at) child = omega (arith, not_above rest at child)
+
+-- a node stays within a limit with a child that is lower
+pub stays_within : (shape : Shape) (at : ℕ) (child : Option Shape) (limit : ℕ) → height shape ≤ limit → height_of child < limit →
+    height (with_child shape at child) ≤ limit
+stays_within shape at child limit within lower =
+    omega (arith, within, lower, height_roll (record (out-Shape shape) { fields = pushed_at (out-Shape shape).fields at child }), height_out shape, not_above (out-Shape shape).fields at child)
+
+-- an attribute leaves the height
+pub as_high : (shape : Shape) (at : ℕ) (value : AttributeValue) → height (with_attribute shape at value) ≡ height shape
+as_high shape at value =
+    height_roll (record (out-Shape shape) { attributes = attributes_with (out-Shape shape).attributes at value }) ∙ sym (height_out shape)
 
 no_heights : (count : ℕ) → tallest_of_all (heights (replicate count [])) ≡ 0
 no_heights zero = refl
@@ -94,3 +125,21 @@ in_list (first ∷ rest) (suc at) some = let within = in_list rest at some in om
 
 pub field_within : (kind field : ℕ) → HasField kind field → field < length (child_fields kind)
 field_within kind field has = in_list (child_fields kind) field has
+
+pushed_beyond : {A : Type 0} (fields : List (List A)) (at : ℕ) (child : A) → length fields ≤ at → pushed_at fields at child ≡ fields
+pushed_beyond [] at child beyond = refl
+pushed_beyond (field ∷ rest) zero child beyond = absurd (omega (beyond, arith))
+pushed_beyond (field ∷ rest) (suc at) child beyond = ap (λ fields. field ∷ fields) (pushed_beyond rest at child (omega (beyond, arith)))
+
+-- a field that the kind doesn't have takes nothing
+pub with_child_beyond : (shape : Shape) (at : ℕ) (child : Option Shape) → length (out-Shape shape).fields ≤ at → with_child shape at child ≡ shape
+with_child_beyond shape at child beyond =
+    ap (λ fields. roll-Shape (record (out-Shape shape) { fields = fields })) (pushed_beyond (out-Shape shape).fields at child beyond) ∙ roll-out-Shape shape
+
+-- what holds of the bare node holds of the one that is made
+pub made : (P : Shape → Type 0) (kind count : ℕ) (span : Span) (fields : List (List (Option Shape))) (attributes : List SetAttribute) →
+    fields ≡ replicate count [] → count ≡ length (child_fields kind) → attributes ≡ [] → P (bare kind span) →
+    P (roll-Shape (record { kind = kind; span = span; fields = fields; attributes = attributes }))
+made P kind count span fields attributes lists is none bared =
+    subst (λ a. P (roll-Shape (record { kind = kind; span = span; fields = fields; attributes = a }))) (sym none)
+    (subst (λ f. P (roll-Shape (record { kind = kind; span = span; fields = f; attributes = [] }))) (sym (lists ∙ ap (λ (n : ℕ). replicate n []) is)) bared)

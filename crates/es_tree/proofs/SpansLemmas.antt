@@ -1,10 +1,12 @@
 -- What a test of spans says of a node that is made, and of the rows of a tree.
-use Rattle.std.proofs.Common.{◌≡◌, ◌∙◌, ℕ, zero, suc, ◌+◌, ◌<◌, List, [], ◌∷◌, ◌++◌, length, Bool, true, false, arith, refl, sym, ap, subst}
+use Rattle.std.proofs.Common.{◌≡◌, ◌∙◌, ℕ, zero, suc, ◌+◌, ◌<◌, List, [], ◌∷◌, ◌++◌, length, Bool, true, false, arith, refl, sym, ap, subst, ◌≤◌, ⊎_elim}
 use Rattle.std.specs.Prelude.{◌&&◌, Option, Some, None, replicate}
 use Rattle.std.specs.List.{list_all}
+use Rattle.std.proofs.lemmas.Bool.{cases_lt}
 use Rattle.es_text.specs.Lists.{pushed_at}
 use Rattle.es_text.specs.declared.span.Span.{Span}
 use Rattle.es_tree.specs.Rows.{Row}
+use Rattle.es_tree.specs.declared.shape.AttributeValue.{AttributeValue}
 use Rattle.es_tree.specs.declared.shape.Shape.{Shape, out-Shape, roll-Shape}
 use Rattle.es_tree.specs.declared.shape.Shape.TheOpen.{Shape-F}
 use Rattle.es_tree.specs.declared.shape.Shape.TheShapes.{former-Shape-fields, former-Shape-fields-at-2}
@@ -12,9 +14,11 @@ use Rattle.es_tree.specs.declared.shape.Shape.TheFolds.{fold-roll-Shape, fold_ou
 use Rattle.es_tree.specs.declared.shape.Shape.TheViews.{out-roll-Shape}
 use Rattle.es_tables.specs.Nodes.{child_fields}
 use Rattle.es_tree.specs.Numbering.{rows_in, rows_of_all, numbers_of_all, row_of, numbered, rows_of}
-use Rattle.es_tree.specs.Shapes.{bare, with_child}
+use Rattle.es_tree.specs.Attributes.{attributes_with}
+use Rattle.es_tree.specs.Shapes.{bare, with_attribute, with_child}
 use Rattle.es_tree.specs.Spans.{all_pass, all_fields_pass, passes_step, spans_pass, child_passes}
 use Rattle.es_tree.proofs.NumberingLemmas.{numbered-layer}
+use Rattle.es_tree.proofs.ShapesLemmas.{with_child_beyond}
 
 and_first : (a b : Bool) → a && b ≡ true → a ≡ true
 and_first true b h = refl
@@ -95,6 +99,20 @@ module _ (test : Span → Bool) where
       ∙ ap (λ b. test (out-Shape shape).span && b) (all_fields_pass-push (out-Shape shape).fields at child within)
       ∙ sym (and_assoc (test (out-Shape shape).span) (all_fields_pass (answers (out-Shape shape).fields)) (child_passes test child))
       ∙ ap (λ b. b && child_passes test child) (sym (passes_out shape))
+
+  -- a child of a field that the node doesn't have is left out
+  pub passes-with_child : (shape : Shape) (at : ℕ) (child : Option Shape) → spans_pass test shape ≡ true → child_passes test child ≡ true →
+      spans_pass test (with_child shape at child) ≡ true
+  passes-with_child shape at child own below =
+      ⊎_elim
+      (λ (within : at < length (out-Shape shape).fields).
+      spans_pass-with_child shape at child within ∙ and_both (spans_pass test shape) (child_passes test child) own below)
+      (λ (beyond : length (out-Shape shape).fields ≤ at). ap (spans_pass test) (with_child_beyond shape at child beyond) ∙ own)
+      (cases_lt at (length (out-Shape shape).fields))
+
+  pub spans_pass-with_attribute : (shape : Shape) (at : ℕ) (value : AttributeValue) → spans_pass test (with_attribute shape at value) ≡ spans_pass test shape
+  spans_pass-with_attribute shape at value =
+      passes_roll (record (out-Shape shape) { attributes = attributes_with (out-Shape shape).attributes at value }) ∙ sym (passes_out shape)
 
   list_all-append : (first second : List Row) → list_all (λ row. test row.span) first ≡ true → list_all (λ row. test row.span) second ≡ true →
       list_all (λ row. test row.span) (first ++ second) ≡ true

@@ -1,5 +1,6 @@
 pub mod Attributes
 pub mod Entries
+pub mod Heights
 pub mod Levels
 pub mod Numbering
 pub mod Parts

@@ -5,6 +5,7 @@
 mod attribute;
 mod child_lists;
 pub mod kind;
+mod law;
 mod node;
 mod number;
 mod parsed;
@@ -16,6 +17,7 @@ mod tests;
 mod tree;
 
 pub use attribute::Attribute;
+pub use law::{heights, parts_pass};
 pub use node::Node;
 pub use parsed::Parsed;
 pub use shape::{AttributeValue, SetAttribute, Shape};

@@ -60,6 +60,16 @@ impl Node {
         ensures height { IfOk result (λ node. height node ≡ 1) }
         ensures spans { (test : Span → Bool) → IfOk result (λ node. spans_pass test node ≡ test span) }
     {
+        Node::bare(alloc, kind, span)
+    }
+
+    /// The same as `new` for any code: one that is no kind's has no child fields.
+    pub fn bare(alloc: Global, kind: u16, span: Span) -> Result<Node, NoMemory>
+        ensures node { IfOk result (λ node. node ≡ bare kind span) }
+        ensures empty { IfOk result (λ node. (field : ℕ) → HasField kind field → HasNone node field) }
+        ensures height { IfOk result (λ node. height node ≡ 1) }
+        ensures spans { (test : Span → Bool) → IfOk result (λ node. spans_pass test node ≡ test span) }
+    {
         let shape = Shape {
             kind,
             span,
@@ -86,6 +96,13 @@ impl Node {
         shape
     }
 
+    /// The node as plain data, to be read.
+    pub fn as_shape(&self) -> &Shape
+        ensures { result.now ≡ self.now }
+    {
+        &self.shape
+    }
+
     /// Puts the child, or for `None` a hole, at the end of the field. The field is its index, from 0,
     /// among the child fields of the kind. After `NoMemory` the child is given up, and the node is as
     /// before.
@@ -100,6 +117,22 @@ impl Node {
             (spans_pass test self.new ≡ spans_pass test self.old && child_passes test child) }
         ensures err { OnErr result (self.new ≡ self.old) }
     {
+        self.put(field, child)
+    }
+
+    /// The same as `add` for any field: one that is no child field of the kind takes nothing.
+    pub fn put(&mut self, field: u16, child: Option<Node>) -> Result<(), NoMemory>
+        requires low { height_of child ≤ 1000 }
+        ensures ok { OnOk result (self.new ≡ with_child self.old field child) }
+        ensures height { HasField (out-Shape self.old).kind field →
+            OnOk result (height self.new ≡ max (height self.old) (height_of child + 1)) }
+        ensures spans { HasField (out-Shape self.old).kind field → (test : Span → Bool) → OnOk result
+            (spans_pass test self.new ≡ spans_pass test self.old && child_passes test child) }
+        ensures err { OnErr result (self.new ≡ self.old) }
+    {
+        if field as usize >= self.shape.fields.len() {
+            return Ok(());
+        }
         let (shape, levels) = with_levels(child);
         push_at(&mut self.shape.fields, field as usize, shape)?;
         self.levels = self.levels.max(levels + 1);
@@ -120,6 +153,14 @@ impl Node {
         ensures err { OnErr result (self.new ≡ self.old) }
     {
         let value = AttributeValue::of(alloc, value)?;
+        self.give(alloc, field, value)
+    }
+
+    /// The same as `set` for any field, with a value that has its own memory.
+    pub fn give(&mut self, alloc: Global, field: u16, value: AttributeValue) -> Result<(), NoMemory>
+        ensures ok { OnOk result (self.new ≡ with_attribute self.old field value) }
+        ensures err { OnErr result (self.new ≡ self.old) }
+    {
         let attributes = &mut self.shape.attributes;
         let mut all = mem::replace(attributes, Items::new(alloc)).into_vec();
         let done = give(&mut all, SetAttribute { field, value });

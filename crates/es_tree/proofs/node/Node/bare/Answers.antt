@@ -1,23 +1,10 @@
-use Rattle.std.proofs.Common.{◌≡◌, ◌∙◌, ℕ, List, [], length, replicate, ap, sym, subst, arith}
-use Rattle.std.specs.Prelude.{Option}
-use Rattle.es_text.specs.declared.span.Span.{Span}
-use Rattle.es_tree.specs.declared.shape.SetAttribute.{SetAttribute}
-use Rattle.es_tree.specs.declared.shape.Shape.{Shape, roll-Shape}
-use Rattle.es_tables.specs.Nodes.{child_fields}
+use Rattle.std.proofs.Common.{◌≡◌, sym, arith}
 use Rattle.es_tree.specs.Levels.{HasLevels}
-use Rattle.es_tree.specs.Shapes.{bare, height, HasNone}
+use Rattle.es_tree.specs.Shapes.{height, HasNone}
 use Rattle.es_tree.specs.Spans.{spans_pass}
-use Rattle.es_tree.proofs.ShapesLemmas.{field_within, height-bare, none-bare, fields-bare}
+use Rattle.es_tree.proofs.ShapesLemmas.{made, field_within, height-bare, none-bare, fields-bare}
 use Rattle.es_tree.proofs.SpansLemmas.{spans_pass-bare}
-use Rattle.es_tree.proofs.node.Node.new.Goals as goal
-
--- what holds of the bare node holds of the one that is made
-made : (P : Shape → Type 0) (kind count : ℕ) (span : Span) (fields : List (List (Option Shape))) (attributes : List SetAttribute) →
-    fields ≡ replicate count [] → count ≡ length (child_fields kind) → attributes ≡ [] → P (bare kind span) →
-    P (roll-Shape (record { kind = kind; span = span; fields = fields; attributes = attributes }))
-made P kind count span fields attributes lists is none bared =
-    subst (λ a. P (roll-Shape (record { kind = kind; span = span; fields = fields; attributes = a }))) (sym none)
-    (subst (λ f. P (roll-Shape (record { kind = kind; span = span; fields = f; attributes = [] }))) (sym (lists ∙ ap (λ (n : ℕ). replicate n []) is)) bared)
+use Rattle.es_tree.proofs.node.Node.bare.Goals as goal
 
 pub invariant_of-result : goal.invariant_of-result
 invariant_of-result c =
