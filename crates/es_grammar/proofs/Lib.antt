@@ -1,7 +1,10 @@
 mod Bits
 mod Closed
+mod DraftsLemmas
 mod FirstSetsLemmas
+mod PartsLemmas
 mod RanksLemmas
 mod ReadingLemmas
 mod TerminalsLemmas
 mod TreesLemmas
+mod WithinLemmas

@@ -2,6 +2,7 @@
 -- (5.1.5), and the goal symbol Module.
 use Rattle.std.specs.Prelude.{ℕ, Bool, true, false}
 use Rattle.es_grammar.specs.declared.context.Context.{Context}
+pub use Rattle.es_grammar.specs.declared.context.Spot.{Spot}
 use Rattle.es_grammar.specs.declared.context.Change.{Change}
 use Rattle.es_grammar.specs.declared.context.Change.TheVariants.{Same, Brackets, WithoutIn, Plain, Async, Generator, AsyncGenerator}
 
@@ -22,13 +23,6 @@ changed AsyncGenerator context = in_function true true context
 abbrev pub program_context : Bool → Context
 program_context is_module =
     record { await_operator = is_module; yield_operator = false; in_operator = true; in_module = is_module }
-
--- where reading begins: a byte of the text, what that place allows, and how many symbols that take room may
--- still stand inside of one another
-pub record Spot : Type 0 where
-  pub at : ℕ
-  pub context : Context
-  pub room : ℕ
 
 -- further on in the text
 abbrev pub moved : Spot → ℕ → Spot

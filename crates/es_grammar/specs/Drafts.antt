@@ -15,30 +15,15 @@ use Rattle.es_tree.specs.declared.shape.AttributeValue.TheVariants as value
 use Rattle.es_tree.specs.declared.shape.SetAttribute.{SetAttribute}
 use Rattle.es_tree.specs.declared.shape.Shape.{Shape, out-Shape, roll-Shape}
 use Rattle.es_tree.specs.Shapes.{bare, with_attribute, with_child}
+pub use Rattle.es_grammar.specs.declared.draft.Child.{Child}
+pub use Rattle.es_grammar.specs.declared.draft.Draft.{Draft}
+pub use Rattle.es_grammar.specs.declared.draft.Setting.{Setting}
 use Rattle.es_grammar.specs.declared.part.Field.{Field}
 use Rattle.es_grammar.specs.declared.part.Field.TheVariants as f
 use Rattle.es_grammar.specs.declared.part.MemberKind.{MemberKind}
 use Rattle.es_grammar.specs.declared.part.MemberKind.TheVariants as member
 use Rattle.es_grammar.specs.Forms.{kind_called}
 use Rattle.es_grammar.specs.Terminals.{text_of}
-
--- a node, or a hole, for a field of the node around
-pub record Child : Type 0 where
-  pub field : Option Field
-  pub shape : Option Shape
-
--- the value of an attribute of the node around
-pub record Setting : Type 0 where
-  pub field : Field
-  pub value : AttributeValue
-
--- what was read and isn't yet in a node, the tokens of all that was read, and the kind of the node that
--- the symbol around makes, where a part says so
-pub record Draft : Type 0 where
-  pub children : List Child
-  pub settings : List Setting
-  pub tokens : List Token
-  pub becomes : Option ℕ
 
 abbrev pub empty : Draft
 empty = record { children = []; settings = []; tokens = []; becomes = None }

@@ -57,7 +57,7 @@ expression_rule s.ElementList = Commas
 -- 13.2.5, Object Initializer
 -- PropertyDefinitionList : (`...` AssignmentExpression / (`get` / `set`) PropertyName Method
 --     / `async` ~ `*` PropertyName AsyncGeneratorMethod / `async` ~ PropertyName AsyncMethod
---     / `*` PropertyName GeneratorMethod / PropertyName Method / PropertyName `:` AssignmentExpression / Name),*
+--     / `*` PropertyName GeneratorMethod / PropertyName PropertyValue / Name),*
 expression_rule s.PropertyDefinitionList = Commas
     (node "SpreadElement" (token "..." ∷ read s.AssignmentExpression into f.Argument ∷ [])
     ∷ node "Property" (Words t.AccessorWord f.Kind ∷ read s.PropertyName into f.Key ∷
@@ -69,12 +69,15 @@ expression_rule s.PropertyDefinitionList = Commas
     read s.AsyncMethod into f.Value ∷ Kind Init ∷ Flag f.Method ∷ [])
     ∷ node "Property" (token "*" ∷ read s.PropertyName into f.Key ∷
     read s.GeneratorMethod into f.Value ∷ Kind Init ∷ Flag f.Method ∷ [])
-    ∷ node "Property" (read s.PropertyName into f.Key ∷ read s.Method into f.Value ∷ Kind Init ∷
-    Flag f.Method ∷ [])
-    ∷ node "Property" (read s.PropertyName into f.Key ∷ token ":" ∷
-    read s.AssignmentExpression into f.Value ∷ Kind Init ∷ [])
+    ∷ node "Property" (read s.PropertyName into f.Key ∷ read s.PropertyValue ∷ [])
     ∷ node "Property" (twin t.Name "Identifier" into f.Key ∷ leaf t.Name "Identifier" into f.Value ∷
     Kind Init ∷ Flag f.Shorthand ∷ [])
+    ∷ [])
+--
+-- PropertyValue : Method / `:` AssignmentExpression
+expression_rule s.PropertyValue = Choice
+    (plain (read s.Method into f.Value ∷ Kind Init ∷ Flag f.Method ∷ [])
+    ∷ plain (token ":" ∷ read s.AssignmentExpression into f.Value ∷ Kind Init ∷ [])
     ∷ [])
 --
 -- PropertyName : Word / Text / Number / `[` ^AssignmentExpression `]`
@@ -296,14 +299,18 @@ expression_rule s.ConditionalExpression = behind s.ShortCircuitExpression (optio
     ∷ []))
 --
 -- 13.15, Assignment Operators
--- AssignmentExpression : YieldExpression / ArrowFunction
---     / {`[` or `{` is next} AssignmentPattern `=` ^AssignmentExpression / SimpleAssignment
+-- AssignmentExpression : YieldExpression / ArrowFunction / DestructuringAssignment / SimpleAssignment
 expression_rule s.AssignmentExpression = Choice
     (plain (read s.YieldExpression ∷ [])
     ∷ plain (read s.ArrowFunction ∷ [])
-    ∷ node "AssignmentExpression" (Check c.BracketNext ∷ read s.AssignmentPattern into f.Left ∷
-    operator "=" ∷ deeper s.AssignmentExpression into f.Right ∷ [])
+    ∷ plain (read s.DestructuringAssignment ∷ [])
     ∷ plain (read s.SimpleAssignment ∷ [])
+    ∷ [])
+--
+-- DestructuringAssignment : {`[` or `{` is next} AssignmentPattern `=` ^AssignmentExpression
+expression_rule s.DestructuringAssignment = Choice
+    (node "AssignmentExpression" (Check c.BracketNext ∷ read s.AssignmentPattern into f.Left ∷
+    operator "=" ∷ deeper s.AssignmentExpression into f.Right ∷ [])
     ∷ [])
 --
 -- SimpleAssignment : ConditionalExpression ({a plain target} AssignmentOperator ^AssignmentExpression)?

@@ -8,7 +8,7 @@ use Rattle.es_grammar.specs.declared.part.Part.TheVariants.{Check, Directives, F
 use Rattle.es_grammar.specs.declared.part.Terminal.TheVariants as t
 use Rattle.es_grammar.specs.declared.symbol.Symbol.{Symbol}
 use Rattle.es_grammar.specs.declared.symbol.Symbol.TheVariants as s
-use Rattle.es_grammar.specs.Forms.{Form, Choice, Commas, any_number, deeper, inside, leaf, node, option, option_where, plain, read, token, ◌into◌, ◌under◌}
+use Rattle.es_grammar.specs.Forms.{Form, Choice, Commas, any_number, becomes, becoming, deeper, inside, leaf, node, option, option_where, plain, read, token, ◌into◌, ◌under◌}
 use Rattle.es_grammar.specs.Modules.{module_rule}
 
 unfoldable pub function_rule : Symbol → Form
@@ -161,25 +161,32 @@ function_rule s.ClassBody = Choice
 function_rule s.ClassElementList = any_number (plain (read s.ClassElement ∷ []) ∷ [])
 --
 -- ClassElement : `;` / `static` `{` ^StatementList `}` / `static` Member / Member
--- Member : PrefixedMethod / ClassElementName Method / ClassElementName Initializer Semicolon
+-- Member : PrefixedMethod / ClassElementName ClassElementValue
 -- The method whose key is the word or the text `constructor` is the constructor, if it isn't static
 function_rule s.ClassElement = Choice
     (plain (token ";" ∷ [])
     ∷ node "StaticBlock" (token "static" ∷ token "{" ∷
     deeper s.StatementList under Plain into f.Body ∷ token "}" ∷ [])
     ∷ node "MethodDefinition" (token "static" ∷ Flag f.Static ∷ read s.PrefixedMethod ∷ [])
-    ∷ node "MethodDefinition" (token "static" ∷ Flag f.Static ∷ read s.ClassElementName into f.Key ∷
-    read s.Method into f.Value ∷ Kind Method ∷ [])
-    ∷ node "PropertyDefinition" (token "static" ∷ Flag f.Static ∷
-    read s.ClassElementName into f.Key ∷ read s.Initializer under Plain into f.Value ∷
-    read s.Semicolon ∷ [])
+    ∷ becoming (token "static" ∷ Flag f.Static ∷ read s.ClassElementName into f.Key ∷
+    read s.ClassElementValue ∷ [])
     ∷ node "MethodDefinition" (read s.PrefixedMethod ∷ [])
-    ∷ node "MethodDefinition" (read s.ClassElementName into f.Key ∷ Check c.ConstructorKey ∷
+    ∷ node "MethodDefinition" (read s.ConstructorName into f.Key ∷ Check c.ConstructorKey ∷
     read s.Method into f.Value ∷ Kind Constructor ∷ [])
-    ∷ node "MethodDefinition" (read s.ClassElementName into f.Key ∷ read s.Method into f.Value ∷
-    Kind Method ∷ [])
-    ∷ node "PropertyDefinition" (read s.ClassElementName into f.Key ∷
-    read s.Initializer under Plain into f.Value ∷ read s.Semicolon ∷ [])
+    ∷ becoming (read s.ClassElementName into f.Key ∷ read s.ClassElementValue ∷ [])
+    ∷ [])
+--
+-- ClassElementValue : Method / Initializer Semicolon
+function_rule s.ClassElementValue = Choice
+    (plain (read s.Method into f.Value ∷ Kind Method ∷ becomes "MethodDefinition" ∷ [])
+    ∷ plain (read s.Initializer under Plain into f.Value ∷ read s.Semicolon ∷
+    becomes "PropertyDefinition" ∷ [])
+    ∷ [])
+--
+-- ConstructorName : Word / Text
+function_rule s.ConstructorName = Choice
+    (plain (leaf t.Word "Identifier" ∷ [])
+    ∷ plain (leaf t.Text "Literal" ∷ [])
     ∷ [])
 --
 -- PrefixedMethod : (`get` / `set`) ClassElementName Method / `async` ~ `*` ClassElementName AsyncGeneratorMethod

@@ -16,3 +16,4 @@ pub mod Statements
 pub mod TerminalSets
 pub mod Terminals
 pub mod Trees
+pub mod Within

@@ -9,6 +9,8 @@ use Rattle.es_text.specs.Rest.{begins_with}
 use Rattle.es_tree.specs.declared.shape.AttributeValue.TheVariants as value
 use Rattle.es_tree.specs.declared.shape.Shape.{Shape, out-Shape}
 use Rattle.es_tree.specs.Shapes.{height, with_attribute}
+pub use Rattle.es_grammar.specs.declared.draft.Outcome.{Outcome}
+pub use Rattle.es_grammar.specs.declared.draft.Outcome.TheVariants.{Not, Deep, Read}
 use Rattle.es_grammar.specs.declared.part.Condition.{Condition}
 use Rattle.es_grammar.specs.declared.part.Field.{Field}
 use Rattle.es_grammar.specs.declared.part.Field.TheVariants as f
@@ -20,12 +22,6 @@ use Rattle.es_grammar.specs.Contexts.{Spot}
 use Rattle.es_grammar.specs.Conditions.{holds, is_kind}
 use Rattle.es_grammar.specs.Drafts.{Child, Setting, Draft, between, empty, flag, joined, kind_setting, leaf_of, index_in, shape_of, span_of, value_in, words, words_of}
 use Rattle.es_grammar.specs.Terminals.{terminal_at, text_of}
-
--- what reading gives: it isn't there; it is nested too deeply; or what was read, and the byte behind it
-pub data Outcome : Type 0 where
-  Not : Outcome
-  Deep : Outcome
-  Read : (draft : Draft) (end : ℕ) → Outcome
 
 abbrev pub is_read : Outcome → Bool
 is_read Not = false

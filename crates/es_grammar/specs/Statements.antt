@@ -172,21 +172,25 @@ statement_rule s.ForAwaitHead = Choice
     read s.AssignmentExpression into f.Right ∷ becomes "ForOfStatement" ∷ [])
     ∷ [])
 --
--- ForHead : ForDeclaration `of` AssignmentExpression / ForDeclaration `in` Expression
---     / AssignmentTarget `of` AssignmentExpression / AssignmentTarget `in` Expression
+-- ForHead : ForInOfHead
 --     / ForInitializer {`in` is no operator} `;` OptionalExpression `;` OptionalExpression
 statement_rule s.ForHead = Choice
-    (plain (read s.ForDeclaration into f.Left ∷ token "of" ∷
-    read s.AssignmentExpression into f.Right ∷ becomes "ForOfStatement" ∷ [])
-    ∷ plain (read s.ForDeclaration into f.Left ∷ token "in" ∷ read s.Expression into f.Right ∷
-    becomes "ForInStatement" ∷ [])
-    ∷ plain (read s.AssignmentTarget into f.Left ∷ token "of" ∷
-    read s.AssignmentExpression into f.Right ∷ becomes "ForOfStatement" ∷ [])
-    ∷ plain (read s.AssignmentTarget into f.Left ∷ token "in" ∷ read s.Expression into f.Right ∷
-    becomes "ForInStatement" ∷ [])
+    (plain (read s.ForInOfHead ∷ [])
     ∷ plain (read s.ForInitializer under WithoutIn into f.Init ∷ token ";" ∷
     read s.OptionalExpression into f.Test ∷ token ";" ∷ read s.OptionalExpression into f.Update ∷
     becomes "ForStatement" ∷ [])
+    ∷ [])
+--
+-- ForInOfHead : ForDeclaration ForInOfObject / AssignmentTarget ForInOfObject
+statement_rule s.ForInOfHead = Choice
+    (plain (read s.ForDeclaration into f.Left ∷ read s.ForInOfObject ∷ [])
+    ∷ plain (read s.AssignmentTarget into f.Left ∷ read s.ForInOfObject ∷ [])
+    ∷ [])
+--
+-- ForInOfObject : `of` AssignmentExpression / `in` Expression
+statement_rule s.ForInOfObject = Choice
+    (plain (token "of" ∷ read s.AssignmentExpression into f.Right ∷ becomes "ForOfStatement" ∷ [])
+    ∷ plain (token "in" ∷ read s.Expression into f.Right ∷ becomes "ForInStatement" ∷ [])
     ∷ [])
 --
 -- ForDeclaration : (`var` / `let` / `const`) ForBinding

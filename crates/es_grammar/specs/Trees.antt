@@ -63,7 +63,7 @@ program_of text source items =
     shape_of (kind_called "Program") (record { start = 0; end = length text }) (with_directives items)
     (words f.SourceType (source_words source) ∷ [])
 
--- the items from this byte on, behind those that were read
+-- the items from this byte on, behind those that were read. An item that reads nothing isn't there
 pub data ReadsItems (text : List ℕ) (source : SourceType) : ℕ → Draft → Answer → Type 0 where
   at_end : {at : ℕ} {draft : Draft} {end : Token} → token text at Division ≡ Some end → is_end end.kind ≡ true →
       ReadsItems text source at draft (Whole (program_of text source draft.children) (draft.tokens ++ end ∷ []))
@@ -71,11 +71,14 @@ pub data ReadsItems (text : List ℕ) (source : SourceType) : ℕ → Draft → 
       ReadsItems text source at draft (Unread (first_offset text at))
   too_deep : {at : ℕ} {draft : Draft} → is_at_end text at ≡ false → Reads text (item_of source) (item_spot source at) Deep →
       ReadsItems text source at draft (TooDeep (first_offset text at))
+  nothing_read : {at end : ℕ} {draft item : Draft} → is_at_end text at ≡ false →
+      Reads text (item_of source) (item_spot source at) (Read item end) → nat_lt at end ≡ false →
+      ReadsItems text source at draft (Unread (first_offset text at))
   too_high : {at end : ℕ} {draft item : Draft} → is_at_end text at ≡ false →
-      Reads text (item_of source) (item_spot source at) (Read item end) → is_low item ≡ false →
+      Reads text (item_of source) (item_spot source at) (Read item end) → nat_lt at end ≡ true → is_low item ≡ false →
       ReadsItems text source at draft (TooDeep (first_offset text at))
   next : {at end : ℕ} {draft item : Draft} {answer : Answer} → is_at_end text at ≡ false →
-      Reads text (item_of source) (item_spot source at) (Read item end) → is_low item ≡ true →
+      Reads text (item_of source) (item_spot source at) (Read item end) → nat_lt at end ≡ true → is_low item ≡ true →
       ReadsItems text source end (joined draft item) answer → ReadsItems text source at draft answer
 
 -- the program that a text is

@@ -1,5 +1,5 @@
 /// What a place of a program allows, which goes down from a symbol to those that it reads.
-#[derive(Clone, Copy)]
+#[derive(Clone, Copy, Debug, PartialEq, Eq)]
 pub struct Context {
     /// `await` is an operator here.
     pub await_operator: bool,
@@ -12,7 +12,7 @@ pub struct Context {
 }
 
 /// How the context changes on the way to a symbol.
-#[derive(Clone, Copy)]
+#[derive(Clone, Copy, Debug, PartialEq, Eq)]
 pub enum Change {
     /// It stays.
     Same,
@@ -28,4 +28,14 @@ pub enum Change {
     Generator,
     /// Inside of an async generator.
     AsyncGenerator,
+}
+
+/// Where reading begins.
+#[derive(Clone, Copy, Debug, PartialEq, Eq)]
+pub struct Spot {
+    /// The offset in the text.
+    pub at: u32,
+    pub context: Context,
+    /// How many symbols that take room may still stand inside of one another.
+    pub room: u32,
 }

@@ -54,16 +54,19 @@ pub static PROPERTY_DEFINITION_LIST: Rule = commas![
         token!("*"), read!(PropertyName into Key), read!(GeneratorMethod into Value), kind!(Init),
         flag!(Method),
     ],
-    node![PROPERTY;
-        read!(PropertyName into Key), read!(Method into Value), kind!(Init), flag!(Method),
-    ],
-    node![PROPERTY;
-        read!(PropertyName into Key), token!(":"), read!(AssignmentExpression into Value),
-        kind!(Init),
-    ],
+    node![PROPERTY; read!(PropertyName into Key), read!(PropertyValue)],
     node![PROPERTY;
         twin!(Name as IDENTIFIER into Key), leaf!(Name as IDENTIFIER into Value), kind!(Init),
         flag!(Shorthand),
+    ],
+];
+
+pub static PROPERTY_VALUE: Rule = choice![
+    plain![read!(Method into Value), kind!(Init), flag!(Method)],
+    plain![
+        token!(":"),
+        read!(AssignmentExpression into Value),
+        kind!(Init)
     ],
 ];
 
@@ -273,12 +276,14 @@ pub static CONDITIONAL_EXPRESSION: Rule = behind![ShortCircuitExpression, option
 pub static ASSIGNMENT_EXPRESSION: Rule = choice![
     plain![read!(YieldExpression)],
     plain![read!(ArrowFunction)],
-    node![ASSIGNMENT_EXPRESSION;
-        check!(BracketNext), read!(AssignmentPattern into Left), words!("=" into Operator),
-        deeper!(AssignmentExpression into Right),
-    ],
+    plain![read!(DestructuringAssignment)],
     plain![read!(SimpleAssignment)],
 ];
+
+pub static DESTRUCTURING_ASSIGNMENT: Rule = choice![node![ASSIGNMENT_EXPRESSION;
+        check!(BracketNext), read!(AssignmentPattern into Left), words!("=" into Operator),
+        deeper!(AssignmentExpression into Right),
+    ],];
 
 pub static SIMPLE_ASSIGNMENT: Rule = behind![ConditionalExpression, option; where PlainTarget;
     node![ASSIGNMENT_EXPRESSION;

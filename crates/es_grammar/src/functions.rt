@@ -1,7 +1,7 @@
 //! Functions and classes. ECMA-262, 15.
 use crate::notation::{
-    any_number, check, choice, commas, deeper, flag, inside, kind, leaf, node, option, plain, read,
-    terminal, token, turns, words,
+    any_number, becomes, becoming, check, choice, commas, deeper, flag, inside, kind, leaf, node,
+    option, plain, read, terminal, token, turns, words,
 };
 use crate::{
     Alternative, Change, Condition, Field, MemberKind, Part, Product, Rule, Symbol, Terminal, Turns,
@@ -161,26 +161,36 @@ pub static CLASS_ELEMENT: Rule = choice![
         token!("static"), token!("{"), deeper!(StatementList under Plain into Body), token!("}"),
     ],
     node![METHOD_DEFINITION; token!("static"), flag!(Static), read!(PrefixedMethod)],
-    node![METHOD_DEFINITION;
-        token!("static"), flag!(Static), read!(ClassElementName into Key),
-        read!(Method into Value), kind!(Method),
-    ],
-    node![PROPERTY_DEFINITION;
-        token!("static"), flag!(Static), read!(ClassElementName into Key),
-        read!(Initializer under Plain into Value), read!(Semicolon),
+    becoming![
+        token!("static"),
+        flag!(Static),
+        read!(ClassElementName into Key),
+        read!(ClassElementValue),
     ],
     node![METHOD_DEFINITION; read!(PrefixedMethod)],
     node![METHOD_DEFINITION;
-        read!(ClassElementName into Key), check!(ConstructorKey), read!(Method into Value),
+        read!(ConstructorName into Key), check!(ConstructorKey), read!(Method into Value),
         kind!(Constructor),
     ],
-    node![METHOD_DEFINITION;
-        read!(ClassElementName into Key), read!(Method into Value), kind!(Method),
+    becoming![read!(ClassElementName into Key), read!(ClassElementValue)],
+];
+
+pub static CLASS_ELEMENT_VALUE: Rule = choice![
+    plain![
+        read!(Method into Value),
+        kind!(Method),
+        becomes!(METHOD_DEFINITION)
     ],
-    node![PROPERTY_DEFINITION;
-        read!(ClassElementName into Key), read!(Initializer under Plain into Value),
+    plain![
+        read!(Initializer under Plain into Value),
         read!(Semicolon),
+        becomes!(PROPERTY_DEFINITION),
     ],
+];
+
+pub static CONSTRUCTOR_NAME: Rule = choice![
+    plain![leaf!(Word as IDENTIFIER)],
+    plain![leaf!(Text as LITERAL)],
 ];
 
 pub static PREFIXED_METHOD: Rule = choice![

@@ -3,6 +3,7 @@
 #![tactic(auto)]
 
 mod context;
+mod draft;
 mod expressions;
 mod first;
 mod functions;
@@ -17,9 +18,10 @@ mod terminal;
 #[cfg(test)]
 mod tests;
 
-pub use context::{Change, Context};
+pub use context::{Change, Context, Spot};
+pub use draft::{Child, Draft, Outcome, Setting};
 pub use first::can_begin;
-pub use law::{one_answer, one_reading};
+pub use law::{nodes_lie, one_answer, one_reading};
 pub use part::{
     Alternative, Condition, Field, GREATEST_HEIGHT, MemberKind, Part, Product, ROOM, Rule,
     Terminal, Turns,

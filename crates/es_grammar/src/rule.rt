@@ -22,6 +22,7 @@ use crate::expressions::BITWISE_XOR_EXPRESSION;
 use crate::expressions::CALL_CHAIN;
 use crate::expressions::CALL_CHAIN_START;
 use crate::expressions::CONDITIONAL_EXPRESSION;
+use crate::expressions::DESTRUCTURING_ASSIGNMENT;
 use crate::expressions::ELEMENT_LIST;
 use crate::expressions::EQUALITY_EXPRESSION;
 use crate::expressions::EXPONENTIATION_EXPRESSION;
@@ -41,6 +42,7 @@ use crate::expressions::OPTIONAL_NAME;
 use crate::expressions::PRIMARY_EXPRESSION;
 use crate::expressions::PROPERTY_DEFINITION_LIST;
 use crate::expressions::PROPERTY_NAME;
+use crate::expressions::PROPERTY_VALUE;
 use crate::expressions::RELATIONAL_EXPRESSION;
 use crate::expressions::RELATIONAL_OPERAND;
 use crate::expressions::SHIFT_EXPRESSION;
@@ -59,9 +61,11 @@ use crate::functions::CLASS_DECLARATION;
 use crate::functions::CLASS_ELEMENT;
 use crate::functions::CLASS_ELEMENT_LIST;
 use crate::functions::CLASS_ELEMENT_NAME;
+use crate::functions::CLASS_ELEMENT_VALUE;
 use crate::functions::CLASS_EXPRESSION;
 use crate::functions::CLASS_HERITAGE;
 use crate::functions::CONCISE_BODY;
+use crate::functions::CONSTRUCTOR_NAME;
 use crate::functions::DEFAULT_CLASS;
 use crate::functions::DEFAULT_FUNCTION;
 use crate::functions::FORMAL_PARAMETERS;
@@ -109,6 +113,8 @@ use crate::statements::FOR_AWAIT_HEAD;
 use crate::statements::FOR_BINDING;
 use crate::statements::FOR_DECLARATION;
 use crate::statements::FOR_HEAD;
+use crate::statements::FOR_IN_OF_HEAD;
+use crate::statements::FOR_IN_OF_OBJECT;
 use crate::statements::FOR_INITIALIZER;
 use crate::statements::FOR_STATEMENT;
 use crate::statements::IF_STATEMENT;
@@ -143,6 +149,7 @@ fn kept_rule(symbol: Symbol) -> Rule
         Symbol::PrimaryExpression => PRIMARY_EXPRESSION,
         Symbol::ElementList => ELEMENT_LIST,
         Symbol::PropertyDefinitionList => PROPERTY_DEFINITION_LIST,
+        Symbol::PropertyValue => PROPERTY_VALUE,
         Symbol::PropertyName => PROPERTY_NAME,
         Symbol::Initializer => INITIALIZER,
         Symbol::TemplateLiteral => TEMPLATE_LITERAL,
@@ -174,6 +181,7 @@ fn kept_rule(symbol: Symbol) -> Rule
         Symbol::ShortCircuitExpression => SHORT_CIRCUIT_EXPRESSION,
         Symbol::ConditionalExpression => CONDITIONAL_EXPRESSION,
         Symbol::AssignmentExpression => ASSIGNMENT_EXPRESSION,
+        Symbol::DestructuringAssignment => DESTRUCTURING_ASSIGNMENT,
         Symbol::SimpleAssignment => SIMPLE_ASSIGNMENT,
         Symbol::AssignmentPattern => ASSIGNMENT_PATTERN,
         Symbol::AssignmentElementList => ASSIGNMENT_ELEMENT_LIST,
@@ -205,6 +213,8 @@ fn kept_rule(symbol: Symbol) -> Rule
         Symbol::ForStatement => FOR_STATEMENT,
         Symbol::ForAwaitHead => FOR_AWAIT_HEAD,
         Symbol::ForHead => FOR_HEAD,
+        Symbol::ForInOfHead => FOR_IN_OF_HEAD,
+        Symbol::ForInOfObject => FOR_IN_OF_OBJECT,
         Symbol::ForDeclaration => FOR_DECLARATION,
         Symbol::ForBinding => FOR_BINDING,
         Symbol::ForInitializer => FOR_INITIALIZER,
@@ -249,6 +259,8 @@ fn kept_rule(symbol: Symbol) -> Rule
         Symbol::ClassBody => CLASS_BODY,
         Symbol::ClassElementList => CLASS_ELEMENT_LIST,
         Symbol::ClassElement => CLASS_ELEMENT,
+        Symbol::ClassElementValue => CLASS_ELEMENT_VALUE,
+        Symbol::ConstructorName => CONSTRUCTOR_NAME,
         Symbol::PrefixedMethod => PREFIXED_METHOD,
         Symbol::ClassElementName => CLASS_ELEMENT_NAME,
         Symbol::ModuleItem => MODULE_ITEM,

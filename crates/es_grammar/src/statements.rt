@@ -156,30 +156,7 @@ pub static FOR_AWAIT_HEAD: Rule = choice![
 ];
 
 pub static FOR_HEAD: Rule = choice![
-    plain![
-        read!(ForDeclaration into Left),
-        token!("of"),
-        read!(AssignmentExpression into Right),
-        becomes!(FOR_OF_STATEMENT),
-    ],
-    plain![
-        read!(ForDeclaration into Left),
-        token!("in"),
-        read!(Expression into Right),
-        becomes!(FOR_IN_STATEMENT),
-    ],
-    plain![
-        read!(AssignmentTarget into Left),
-        token!("of"),
-        read!(AssignmentExpression into Right),
-        becomes!(FOR_OF_STATEMENT),
-    ],
-    plain![
-        read!(AssignmentTarget into Left),
-        token!("in"),
-        read!(Expression into Right),
-        becomes!(FOR_IN_STATEMENT),
-    ],
+    plain![read!(ForInOfHead)],
     plain![
         read!(ForInitializer under WithoutIn into Init),
         token!(";"),
@@ -187,6 +164,24 @@ pub static FOR_HEAD: Rule = choice![
         token!(";"),
         read!(OptionalExpression into Update),
         becomes!(FOR_STATEMENT),
+    ],
+];
+
+pub static FOR_IN_OF_HEAD: Rule = choice![
+    plain![read!(ForDeclaration into Left), read!(ForInOfObject)],
+    plain![read!(AssignmentTarget into Left), read!(ForInOfObject)],
+];
+
+pub static FOR_IN_OF_OBJECT: Rule = choice![
+    plain![
+        token!("of"),
+        read!(AssignmentExpression into Right),
+        becomes!(FOR_OF_STATEMENT),
+    ],
+    plain![
+        token!("in"),
+        read!(Expression into Right),
+        becomes!(FOR_IN_STATEMENT),
     ],
 ];
 

@@ -1,5 +1,5 @@
 /// The symbols of the grammar, chapter by chapter as their rules.
-#[derive(Clone, Copy)]
+#[derive(Clone, Copy, Debug, PartialEq, Eq)]
 pub enum Symbol {
     // Expressions: ECMA-262, 13.
     BindingIdentifier,
@@ -7,6 +7,7 @@ pub enum Symbol {
     PrimaryExpression,
     ElementList,
     PropertyDefinitionList,
+    PropertyValue,
     PropertyName,
     Initializer,
     TemplateLiteral,
@@ -38,6 +39,7 @@ pub enum Symbol {
     ShortCircuitExpression,
     ConditionalExpression,
     AssignmentExpression,
+    DestructuringAssignment,
     SimpleAssignment,
     AssignmentPattern,
     AssignmentElementList,
@@ -70,6 +72,8 @@ pub enum Symbol {
     ForStatement,
     ForAwaitHead,
     ForHead,
+    ForInOfHead,
+    ForInOfObject,
     ForDeclaration,
     ForBinding,
     ForInitializer,
@@ -115,6 +119,8 @@ pub enum Symbol {
     ClassBody,
     ClassElementList,
     ClassElement,
+    ClassElementValue,
+    ConstructorName,
     PrefixedMethod,
     ClassElementName,
     // Modules: 16.
