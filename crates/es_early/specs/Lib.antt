@@ -1,0 +1,12 @@
+pub mod Around
+pub mod Declarations
+pub mod Defaults
+pub mod Errors
+pub mod Jumps
+pub mod Kinds
+pub mod Labels
+pub mod Lookups
+pub mod Notes
+pub mod PrivateNames
+pub mod Returns
+pub mod Supers

@@ -1,0 +1,45 @@
+//! Kinds of nodes that early errors speak of together.
+use es_tree::kind::{
+    ARROW_FUNCTION_EXPRESSION, DO_WHILE_STATEMENT, FOR_IN_STATEMENT, FOR_OF_STATEMENT,
+    FOR_STATEMENT, FUNCTION_DECLARATION, FUNCTION_EXPRESSION, METHOD_DEFINITION,
+    PROPERTY_DEFINITION, STATIC_BLOCK, SWITCH_STATEMENT, WHILE_STATEMENT,
+};
+
+pub const FUNCTIONS: [u16; 3] = [
+    FUNCTION_DECLARATION,
+    FUNCTION_EXPRESSION,
+    ARROW_FUNCTION_EXPRESSION,
+];
+
+/// What jumps and labels don't cross, and `return` looks for.
+pub const FUNCTIONS_AND_STATIC_BLOCKS: [u16; 4] = [
+    FUNCTION_DECLARATION,
+    FUNCTION_EXPRESSION,
+    ARROW_FUNCTION_EXPRESSION,
+    STATIC_BLOCK,
+];
+
+/// IterationStatement (14.7)
+pub const LOOPS: [u16; 5] = [
+    DO_WHILE_STATEMENT,
+    WHILE_STATEMENT,
+    FOR_STATEMENT,
+    FOR_IN_STATEMENT,
+    FOR_OF_STATEMENT,
+];
+
+/// BreakableStatement (14)
+pub const LOOPS_AND_SWITCHES: [u16; 6] = [
+    DO_WHILE_STATEMENT,
+    WHILE_STATEMENT,
+    FOR_STATEMENT,
+    FOR_IN_STATEMENT,
+    FOR_OF_STATEMENT,
+    SWITCH_STATEMENT,
+];
+
+/// The members of a class that have a key.
+pub const MEMBERS: [u16; 2] = [METHOD_DEFINITION, PROPERTY_DEFINITION];
+
+/// Functions that aren't arrow functions.
+pub const PLAIN_FUNCTIONS: [u16; 2] = [FUNCTION_DECLARATION, FUNCTION_EXPRESSION];

@@ -1,0 +1,29 @@
+//! The early errors of a tree (ECMA-262, 13th edition), of which the first is found.
+#![tactic(auto)]
+
+mod ancestors;
+mod around;
+mod binding;
+mod code;
+#[cfg(test)]
+mod declaration_tests;
+mod declarations;
+mod defaults;
+mod field;
+mod first_error;
+mod firsts;
+mod jumps;
+mod kinds;
+mod labels;
+mod law;
+mod notes;
+mod private_names;
+mod returns;
+mod scopes;
+mod supers;
+#[cfg(test)]
+mod tests;
+
+pub use code::Early;
+pub use first_error::early;
+pub use law::one_first;
