@@ -1,0 +1,12 @@
+mod BeginningsLemmas
+mod CharsLemmas
+mod ConditionsLemmas
+mod DirectivesLemmas
+mod FixedLemmas
+mod FlagsLemmas
+mod HeightLemmas
+mod ParsingLemmas
+mod PlacesLemmas
+mod ProgramLemmas
+mod ReadingLemmas
+mod TerminalsLemmas

@@ -1,0 +1,121 @@
+//! What was read and isn't yet in a node.
+ghost use Rattle.std.specs.Prelude.{◌≡◌, ◌++◌, ◌∷◌, [], IfOk, OnOk, map, option_copied};
+ghost use Rattle.es_grammar.specs.Drafts.{empty, joined};
+ghost use Rattle.es_grammar.specs.Parts.{after, placed, with_child, with_setting, with_token};
+
+use es_grammar::{Child, Draft, Field, Outcome, Setting};
+use es_text::{Items, NoMemory, Token};
+use std::alloc::Global;
+
+/// Nothing.
+pub fn nothing(alloc: Global) -> Draft
+    ensures { result ≡ empty }
+{
+    Draft {
+        children: Items::new(alloc),
+        settings: Items::new(alloc),
+        tokens: Items::new(alloc),
+        becomes: None,
+    }
+}
+
+/// The items of the second list behind those of the first. Takes time in the length of the second, or
+/// constant time where the first is empty.
+fn append<T: Drop>(first: Items<T>, more: Items<T>) -> Result<Items<T>, NoMemory>
+    ensures { IfOk result (λ all. all ≡ first ++ more) }
+{
+    if first.len() == 0 {
+        return Ok(more);
+    }
+    let mut all = first;
+    for item in more.into_vec() {
+        all.push(item)?;
+    }
+    Ok(all)
+}
+
+/// What was read first, and then more.
+pub fn join(first: Draft, more: Draft) -> Result<Draft, NoMemory>
+    ensures { IfOk result (λ all. all ≡ joined first more) }
+{
+    Ok(Draft {
+        children: append(first.children, more.children)?,
+        settings: append(first.settings, more.settings)?,
+        tokens: append(first.tokens, more.tokens)?,
+        becomes: more.becomes.or(first.becomes),
+    })
+}
+
+pub fn add_child(draft: &mut Draft, child: Child) -> Result<(), NoMemory>
+    ensures { OnOk result (draft.new ≡ with_child draft.old child) }
+{
+    draft.children.push(child)?;
+    Ok(())
+}
+
+pub fn add_setting(draft: &mut Draft, setting: Setting) -> Result<(), NoMemory>
+    ensures { OnOk result (draft.new ≡ with_setting draft.old setting) }
+{
+    draft.settings.push(setting)?;
+    Ok(())
+}
+
+pub fn add_token(draft: &mut Draft, token: Token) -> Result<(), NoMemory>
+    ensures { OnOk result (draft.new ≡ with_token draft.old token) }
+{
+    draft.tokens.push(token)?;
+    Ok(())
+}
+
+/// The field for each child that has none yet.
+fn place(
+    alloc: Global,
+    field: Option<Field>,
+    children: Items<Child>,
+) -> Result<Items<Child>, NoMemory>
+    ensures { IfOk result (λ all. all ≡ map (placed field) children) }
+{
+    let Some(field) = field else {
+        return Ok(children);
+    };
+    let mut all = Vec::with_capacity(alloc, children.len())?;
+    for child in children.into_vec() {
+        let Child { field: own, shape } = child;
+        all.push(Child {
+            field: own.or(Some(field)),
+            shape,
+        })?;
+    }
+    Ok(Items::from_vec(all))
+}
+
+/// What a symbol gives, behind what was read before it.
+#[tactic(auto, unfolding(es_grammar::specs::Parts::after))]
+pub fn extend(
+    alloc: Global,
+    draft: Draft,
+    field: Option<Field>,
+    outcome: Outcome,
+) -> Result<Outcome, NoMemory>
+    ensures { IfOk result (λ all. all ≡ after draft field outcome) }
+{
+    match outcome {
+        Outcome::Read(more, end) => {
+            let Draft {
+                children,
+                settings,
+                tokens,
+                becomes,
+            } = more;
+            let children = place(alloc, field, children)?;
+            let more = Draft {
+                children,
+                settings,
+                tokens,
+                becomes,
+            };
+            Ok(Outcome::Read(join(draft, more)?, end))
+        }
+        stopped => Ok(stopped),
+    }
+}

@@ -1,0 +1,342 @@
+//! The nodes that are made of what was read.
+ghost use Rattle.std.specs.Prelude.{◌≡◌, ◌≤◌, ◌<◌, nat_lt, ◌∷◌, [], map, Some, None, IfOk, IfSome, IfNone, ℕ};
+ghost use Rattle.std.specs.Option.{unwrap_or};
+ghost use Rattle.es_tables.specs.Nodes.{field_index, node_rows};
+ghost use Rattle.es_tree.specs.Shapes.{bare, height, height_of};
+ghost use Rattle.es_text.specs.declared.span.Span.{Span};
+ghost use Rattle.es_grammar.specs.Drafts.{first_start, flags_of, joined, last_end, name_of, index_in, shape_of, span_of, with_children, with_flags, with_settings};
+ghost use Rattle.es_grammar.specs.Parts.{finish, made};
+ghost use Rattle.es_parser.specs.Flags.{flags_in};
+
+use crate::drafts::{join, nothing};
+use es_grammar::{Child, Draft, Field, GREATEST_HEIGHT, Outcome, Product, Setting};
+use es_tables::field_of;
+use es_text::{Items, NoMemory, Span, Token};
+use es_tree::{AttributeValue, Node, heights};
+use std::alloc::Global;
+
+/// The name of the field.
+#[tactic(auto, unfolding(es_grammar::specs::Drafts::name_of))]
+pub fn name_of(field: Field) -> &'static str
+    ensures { result.now ≡ name_of field }
+{
+    match field {
+        Field::Alternate => "alternate",
+        Field::Argument => "argument",
+        Field::Arguments => "arguments",
+        Field::Async => "async",
+        Field::Await => "await",
+        Field::Bigint => "bigint",
+        Field::Block => "block",
+        Field::Body => "body",
+        Field::Callee => "callee",
+        Field::Cases => "cases",
+        Field::Computed => "computed",
+        Field::Consequent => "consequent",
+        Field::Declaration => "declaration",
+        Field::Declarations => "declarations",
+        Field::Delegate => "delegate",
+        Field::Directive => "directive",
+        Field::Discriminant => "discriminant",
+        Field::Elements => "elements",
+        Field::Exported => "exported",
+        Field::Expression => "expression",
+        Field::Expressions => "expressions",
+        Field::Finalizer => "finalizer",
+        Field::Generator => "generator",
+        Field::Handler => "handler",
+        Field::Id => "id",
+        Field::Imported => "imported",
+        Field::Init => "init",
+        Field::Key => "key",
+        Field::Kind => "kind",
+        Field::Label => "label",
+        Field::Left => "left",
+        Field::Local => "local",
+        Field::Meta => "meta",
+        Field::Method => "method",
+        Field::Name => "name",
+        Field::Object => "object",
+        Field::Operator => "operator",
+        Field::Optional => "optional",
+        Field::Param => "param",
+        Field::Params => "params",
+        Field::Prefix => "prefix",
+        Field::Properties => "properties",
+        Field::Property => "property",
+        Field::Quasi => "quasi",
+        Field::Quasis => "quasis",
+        Field::Raw => "raw",
+        Field::Regex => "regex",
+        Field::Right => "right",
+        Field::Shorthand => "shorthand",
+        Field::Source => "source",
+        Field::SourceType => "sourceType",
+        Field::Specifiers => "specifiers",
+        Field::Static => "static",
+        Field::SuperClass => "superClass",
+        Field::Tag => "tag",
+        Field::Tail => "tail",
+        Field::Test => "test",
+        Field::Update => "update",
+        Field::Value => "value",
+    }
+}
+
+/// The position of the field among those of the kind; children without a field stand in the first.
+pub fn index_in(kind: u16, field: Option<Field>) -> u16
+    ensures { result ≡ index_in kind field }
+{
+    match field {
+        None => 0,
+        Some(field) => field_of(kind, name_of(field)).unwrap_or(0),
+    }
+}
+
+/// For each kind the positions of the attributes that are true or false.
+static FLAGS: [&[u16]; 71] = [
+    &[],
+    &[],
+    &[],
+    &[],
+    &[],
+    &[],
+    &[],
+    &[],
+    &[],
+    &[], // Program to WithStatement
+    &[],
+    &[],
+    &[],
+    &[],
+    &[],
+    &[],
+    &[],
+    &[],
+    &[],
+    &[], // ReturnStatement to CatchClause
+    &[],
+    &[],
+    &[],
+    &[], // WhileStatement to ForInStatement
+    &[3], // ForOfStatement: await
+    &[3, 4], // FunctionDeclaration: async, generator
+    &[3, 4], // FunctionExpression: async, generator
+    &[2, 3], // ArrowFunctionExpression: async, expression
+    &[],
+    &[],
+    &[],
+    &[], // VariableDeclaration to ClassExpression
+    &[3, 4], // MethodDefinition: static, computed
+    &[2, 3], // PropertyDefinition: static, computed
+    &[],
+    &[],
+    &[],
+    &[],
+    &[],
+    &[],
+    &[], // Identifier to ObjectPattern
+    &[3, 4, 5], // Property: method, shorthand, computed
+    &[2], // UnaryExpression: prefix
+    &[2], // UpdateExpression: prefix
+    &[],
+    &[],
+    &[],
+    &[], // BinaryExpression to AssignmentPattern
+    &[2, 3], // MemberExpression: computed, optional
+    &[2], // CallExpression: optional
+    &[],
+    &[],
+    &[], // NewExpression to SequenceExpression
+    &[1], // YieldExpression: delegate
+    &[],
+    &[],
+    &[],
+    &[], // AwaitExpression to TemplateLiteral
+    &[1], // TemplateElement: tail
+    &[],
+    &[],
+    &[],
+    &[],
+    &[],
+    &[],
+    &[],
+    &[],
+    &[],
+    &[],
+    &[],
+    &[], // TaggedTemplateExpression to the last
+];
+
+fn all_flags() -> &'static [&'static [u16]]
+    ensures { map (λ flags. flags.now) result.now ≡ map flags_in node_rows }
+{
+    &FLAGS
+}
+
+/// The positions of the kind's attributes that are true or false.
+fn flags_of(kind: u16) -> &'static [u16]
+    ensures { result.now ≡ map (λ name. unwrap_or (field_index kind name) 0) (flags_of kind) }
+{
+    match all_flags().get(kind as usize) {
+        Some(flags) => flags,
+        None => &[],
+    }
+}
+
+/// A node of this kind, with its flags, which are false.
+fn with_flags(alloc: Global, kind: u16, span: Span) -> Result<Node, NoMemory>
+    ensures { IfOk result (λ node. node ≡ with_flags kind (flags_of kind) (bare kind span)) }
+{
+    let mut node = Node::bare(alloc, kind, span)?;
+    for flag in flags_of(kind) {
+        node.give(alloc, *flag, AttributeValue::Flag(false))?;
+    }
+    Ok(node)
+}
+
+/// The same with these attributes.
+pub fn with_settings(
+    alloc: Global,
+    kind: u16,
+    span: Span,
+    settings: Items<Setting>,
+) -> Result<Node, NoMemory>
+    ensures { IfOk result (λ node. node ≡ with_settings kind settings (with_flags kind (flags_of kind) (bare kind span))) }
+{
+    let mut node = with_flags(alloc, kind, span)?;
+    for setting in settings.into_vec() {
+        let Setting { field, value } = setting;
+        node.give(alloc, index_in(kind, Some(field)), value)?;
+    }
+    Ok(node)
+}
+
+fn is_too_high(child: &Option<Node>) -> bool
+    ensures { result ≡ nat_lt GREATEST_HEIGHT (height_of child.now) }
+{
+    match child {
+        None => false,
+        Some(node) => node.height() > GREATEST_HEIGHT,
+    }
+}
+
+/// The node with these children, or `None` where that is too high.
+pub fn with_children(
+    kind: u16,
+    node: Node,
+    children: Items<Child>,
+) -> Result<Option<Node>, NoMemory>
+    ensures low { IfOk result (λ made. IfSome made (λ all. all ≡ with_children kind children node)) }
+    ensures bounded { IfOk result (λ made. IfSome made (λ all. height all ≤ GREATEST_HEIGHT)) }
+    ensures high { IfOk result (λ made. IfNone made
+        (GREATEST_HEIGHT < height (with_children kind children node))) }
+{
+    heights();
+    let mut node = node;
+    for child in children.into_vec() {
+        let Child { field, shape } = child;
+        let field = index_in(kind, field);
+        if (field as usize) < node.as_shape().fields.len() {
+            if is_too_high(&shape) {
+                return Ok(None);
+            }
+            node.put(field, shape)?;
+        }
+    }
+    Ok(if node.height() > GREATEST_HEIGHT {
+        None
+    } else {
+        Some(node)
+    })
+}
+
+pub fn first_start(tokens: &[Token]) -> u32
+    ensures { result ≡ first_start tokens.now }
+{
+    match tokens {
+        [] => 0,
+        [first, ..] => first.span.start,
+    }
+}
+
+fn last_end(tokens: &[Token]) -> u32
+    ensures { result ≡ last_end tokens.now }
+{
+    match tokens {
+        [] => 0,
+        [.., last] => last.span.end,
+    }
+}
+
+/// From the first token to the last.
+pub fn span_of(tokens: &[Token]) -> Span
+    ensures { result ≡ span_of tokens.now }
+{
+    Span {
+        start: first_start(tokens),
+        end: last_end(tokens),
+    }
+}
+
+/// The node of this kind from what was read, unless it is too high.
+#[tactic(auto, unfolding(es_grammar::specs::Parts::made, es_grammar::specs::Drafts::shape_of))]
+fn made(
+    alloc: Global,
+    kind: u16,
+    draft: Draft,
+    becomes: Option<u16>,
+    end: u32,
+) -> Result<Outcome, NoMemory>
+    ensures { IfOk result (λ outcome. outcome ≡ made kind draft becomes end) }
+{
+    let Draft {
+        children,
+        settings,
+        tokens,
+        becomes: _,
+    } = draft;
+    let node = with_settings(alloc, kind, span_of(tokens.as_slice()), settings)?;
+    match with_children(kind, node, children)? {
+        None => Ok(Outcome::Deep),
+        Some(node) => {
+            let mut children = Items::new(alloc);
+            children.push(Child {
+                field: None,
+                shape: Some(node),
+            })?;
+            let draft = Draft {
+                children,
+                settings: Items::new(alloc),
+                tokens,
+                becomes,
+            };
+            Ok(Outcome::Read(draft, end))
+        }
+    }
+}
+
+/// What a row makes of what its parts gave, behind what was read before.
+#[tactic(auto, unfolding(es_grammar::specs::Parts::finish))]
+pub fn finish(
+    alloc: Global,
+    makes: Product,
+    seed: Draft,
+    outcome: Outcome,
+) -> Result<Outcome, NoMemory>
+    ensures { IfOk result (λ all. all ≡ finish makes seed outcome) }
+{
+    let Outcome::Read(draft, end) = outcome else {
+        return Ok(outcome);
+    };
+    let draft = join(seed, draft)?;
+    let becomes = draft.becomes;
+    match makes {
+        Product::Parts => Ok(Outcome::Read(draft, end)),
+        Product::Node(kind) => made(alloc, kind, draft, becomes, end),
+        Product::Becoming => match becomes {
+            None => Ok(Outcome::Read(draft, end)),
+            Some(kind) => made(alloc, kind, draft, None, end),
+        },
+    }
+}
