@@ -1,6 +1,7 @@
 use crate::outside::{ReadFault, Sink, SinkFault};
 use crate::real::RealErr;
 use crate::streams::read_within;
+use crate::tests::check;
 use std::io;
 use std::io::{ErrorKind, Read, Write};
 use std::test::Fail;
@@ -47,14 +48,11 @@ fn an_interrupted_read_goes_on(rt: HostRuntime) {
             tried: false,
             broken,
         };
-        match read_within(rt.alloc(), &mut reader, limit) {
-            Ok(bytes) => {
-                assert!(rt; fault.is_none());
-                assert_eq!(rt; bytes.as_slice(), b"abcde".as_slice());
-            }
-            Err(found) => assert_eq!(rt; Some(found), fault),
-        }
-        assert_eq!(rt; reader.rest.len(), left);
+        let so = match read_within(rt.alloc(), &mut reader, limit) {
+            Ok(bytes) => fault.is_none() && bytes.as_slice() == b"abcde".as_slice(),
+            Err(found) => fault == Some(found),
+        };
+        check(&rt, "a slow read", so && reader.rest.len() == left);
     }
 }
 
@@ -101,9 +99,8 @@ fn the_standard_error_gets_all_once_and_is_flushed(rt: HostRuntime) -> Result<()
             flushes: 0,
         };
         let answer = RealErr::new(&mut tape).write(rt.alloc(), b"abc");
-        assert_eq!(rt; answer, want);
-        assert_eq!(rt; tape.got.as_slice(), got);
-        assert_eq!(rt; tape.flushes, flushes);
+        let so = answer == want && tape.got.as_slice() == got && tape.flushes == flushes;
+        check(&rt, "the output", so);
     }
     Ok(())
 }

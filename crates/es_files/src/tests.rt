@@ -3,8 +3,14 @@ use crate::{MemoryFiles, MemorySink, RealErr, RealFiles, RealOut, SureFiles, Sur
 use std::cell::Cell;
 use std::fmt::Display;
 use std::io::{Print, Write};
+use std::process::Abort;
 use std::test::Fail;
 use std::{env, fs, io, process};
+
+/// Asserts that what is said is so.
+pub(crate) fn check(rt: &impl Abort, what: &str, so: bool) {
+    assert!(rt; so, "{what}");
+}
 
 /// Whether a read answered these bytes, or this fault.
 fn answers(answer: Result<Vec<u8>, ReadFault>, want: Result<&[u8], ReadFault>) -> bool {
@@ -34,7 +40,7 @@ fn reads_in_memory_fail_by_plan(rt: HostRuntime) -> Result<(), Fail> {
     ];
     for (name, limit, want) in reads {
         let answer = files.read(rt.alloc(), name, limit);
-        assert!(rt; answers(answer, want), "reading {name} within {limit}");
+        check(&rt, name, answers(answer, want));
     }
     Ok(())
 }
@@ -54,11 +60,13 @@ fn writes_in_memory_fail_by_plan(rt: HostRuntime) -> Result<(), Fail> {
     ];
     for (name, bytes, want, left) in writes {
         let answer = files.write(rt.alloc(), name, bytes);
-        assert_eq!(rt; answer, want, "writing {name}");
-        assert!(rt; holds(&files, name, left), "after writing {name}");
+        check(&rt, name, answer == want && holds(&files, name, left));
     }
-    assert!(rt; holds(&files, "b.js", b"b\n"));
-    assert!(rt; files.held("c.js").is_none());
+    check(
+        &rt,
+        "others",
+        holds(&files, "b.js", b"b\n") && files.held("c.js").is_none(),
+    );
     Ok(())
 }
 
@@ -75,8 +83,8 @@ fn a_sink_in_memory_fails_by_plan(rt: HostRuntime) -> Result<(), Fail> {
         (b"g", Ok(()), b"abdeg"),
     ];
     for (bytes, want, got) in sends {
-        assert_eq!(rt; sink.write(rt.alloc(), bytes), want);
-        assert_eq!(rt; sink.got(), got);
+        let answer = sink.write(rt.alloc(), bytes);
+        check(&rt, "a write", answer == want && sink.got() == got);
     }
     Ok(())
 }
@@ -94,13 +102,20 @@ fn sure_kinds_do_not_fail(rt: HostRuntime) -> Result<(), Fail> {
     ];
     for (name, limit, want) in reads {
         let answer = files.read(rt.alloc(), name, limit);
-        assert!(rt; answers(answer, want), "reading {name} within {limit}");
+        check(&rt, name, answers(answer, want));
     }
-    assert_eq!(rt; files.held("b.js"), Some(b"b\n".as_slice()));
+    check(
+        &rt,
+        "what is held",
+        files.held("b.js") == Some(b"b\n".as_slice()),
+    );
     let mut sink = SureSink::new(rt.alloc())?;
-    assert_eq!(rt; sink.write(rt.alloc(), b"ab"), Ok(()));
-    assert_eq!(rt; sink.write(rt.alloc(), b"c"), Ok(()));
-    assert_eq!(rt; sink.got(), b"abc".as_slice());
+    let answers = (sink.write(rt.alloc(), b"ab"), sink.write(rt.alloc(), b"c"));
+    check(
+        &rt,
+        "two writes",
+        answers == (Ok(()), Ok(())) && sink.got() == b"abc".as_slice(),
+    );
     Ok(())
 }
 
@@ -122,10 +137,10 @@ fn a_real_file_is_written_and_read(rt: HostRuntime) -> Result<(), Fail> {
     let long = files.read(rt.alloc(), name.as_str(), 2);
     fs::remove_file(&rt, name.as_str())?;
     let gone = files.read(rt.alloc(), name.as_str(), 3);
-    assert_eq!(rt; (before, written), (Ok(()), Ok(())));
-    assert!(rt; answers(whole, Ok(b"\xffb\n")));
-    assert!(rt; answers(long, Err(ReadFault::TooLong)));
-    assert!(rt; answers(gone, Err(ReadFault::Missing)));
+    check(&rt, "two writes", (before, written) == (Ok(()), Ok(())));
+    check(&rt, "all of it", answers(whole, Ok(b"\xffb\n")));
+    check(&rt, "too long", answers(long, Err(ReadFault::TooLong)));
+    check(&rt, "missing", answers(gone, Err(ReadFault::Missing)));
     Ok(())
 }
 
@@ -142,14 +157,24 @@ fn other_real_names_fail(rt: HostRuntime) -> Result<(), Fail> {
     let read = files.read(rt.alloc(), below.as_str(), 2);
     let written = files.write(rt.alloc(), below.as_str(), b"b");
     fs::remove_file(&rt, file.as_str())?;
-    assert_eq!(rt; lost, Err(WriteFault::Failed));
-    assert_eq!(rt; made, Ok(()));
-    assert!(rt; answers(read, Err(ReadFault::Failed)));
-    assert_eq!(rt; written, Err(WriteFault::Failed));
     let inside = files.read(rt.alloc(), folder.as_str(), 2);
-    assert!(rt; answers(inside, Err(ReadFault::Failed)));
     let over = files.write(rt.alloc(), folder.as_str(), b"b");
-    assert_eq!(rt; over, Err(WriteFault::Failed));
+    let failed = Err(WriteFault::Failed);
+    check(
+        &rt,
+        "writes",
+        (lost, made, written, over) == (failed, Ok(()), failed, failed),
+    );
+    check(
+        &rt,
+        "a read below a file",
+        answers(read, Err(ReadFault::Failed)),
+    );
+    check(
+        &rt,
+        "a read of a folder",
+        answers(inside, Err(ReadFault::Failed)),
+    );
     Ok(())
 }
 
@@ -198,15 +223,13 @@ fn the_standard_output_gets_all_once(rt: HostRuntime) {
             got: Cell::new(0),
         };
         let answer = RealOut::new(&page).write(rt.alloc(), bytes);
-        assert_eq!(rt; answer, want);
-        assert_eq!(rt; page.got.get(), got);
+        check(&rt, "the output", answer == want && page.got.get() == got);
     }
 }
 
 #[test]
 fn the_standard_streams_can_be_written(rt: HostRuntime) {
     let printed = RealOut::new(&rt).write(rt.alloc(), b"to the standard output\n");
-    assert_eq!(rt; printed, Ok(()));
     let told = RealErr::new(rt.stderr()).write(rt.alloc(), b"to the standard error\n");
-    assert_eq!(rt; told, Ok(()));
+    check(&rt, "the streams", (printed, told) == (Ok(()), Ok(())));
 }

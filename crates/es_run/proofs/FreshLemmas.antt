@@ -1,28 +1,33 @@
 -- What each stage's answer is to a fresh run, and that a fresh run gives nothing else.
-use Rattle.std.proofs.Common.{◌≡◌, ℕ, ◌≤◌, List, [], ◌∷◌, length, refl, sym, ap, subst, arith, ◌∙◌, inl, inr}
+use Rattle.std.proofs.Common.{◌≡◌, ℕ, ◌<◌, ◌≤◌, List, [], ◌∷◌, length, refl, sym, ap, subst, arith, ◌∙◌, inl, inr}
 use Rattle.std.specs.Prelude.{Option, Some, None, Err, string_bytes}
 use Rattle.std.specs.Str.{chars}
 use Rattle.std.specs.FinMap as finite
 use Rattle.es_text.specs.declared.finding.Report.{Report}
-use Rattle.es_tree.specs.declared.shape.Shape.{Shape}
 use Rattle.es_host.specs.Events.{File}
 use Rattle.es_files.specs.declared.outside.ReadFault.{ReadFault}
 use Rattle.es_files.specs.declared.outside.ReadFault.TheVariants as read
 use Rattle.es_files.specs.Outside.{HoldsMore}
-use Rattle.es_run.specs.declared.status.StopCause.TheVariants.{BadWords, NoFile, NotYet}
+use Rattle.es_run.specs.declared.status.Status.{Status}
+use Rattle.es_run.specs.declared.status.StopCause.TheVariants.{BadWords, NoFile, TooLong}
 use Rattle.es_run.specs.declared.report.Outcome.{Outcome}
-use Rattle.es_run.specs.Fresh.{Answer, Fresh, Given, bad_words, named, OfName, no_file, held, OfBytes, not_yet, linted, IsTheAnswer, IsNotYet, most_bytes, printed, reported, small_file, status_of, stopped}
-use Rattle.es_run.specs.Order.{IsInOrder}
-use Rattle.es_run.specs.SmallText.{IsSmallText}
+use Rattle.es_run.specs.Fresh.{Answer, Fresh, Given, bad_words, named, OfName, no_file, held, OfBytes, too_long, linted, IsTheAnswer, most_bytes, reported, stopped}
 use Rattle.es_run.specs.Stages.{Foretells, IsReportOn, answer_of, fault_of}
 use Rattle.es_run.specs.Arguments.{Names, NoName}
-use Rattle.es_run.proofs.OrderLemmas.{one_order}
 
 first_argument : {a b : List ℕ} → a ∷ [] ≡ b ∷ [] → a ≡ b
 first_argument h = cc
 
 some_bytes : {a b : List ℕ} → Some a ≡ Some b → a ≡ b
 some_bytes h = cc
+
+abbrev made : Status → List ℕ → ℕ → Answer
+made status output heard = record { status = status; output = output; line = []; heard = heard }
+
+same_answer : {status status' : Status} {output output' : List ℕ} {heard heard' : ℕ} → status ≡ status' → output ≡ output' →
+    heard ≡ heard' → made status output heard ≡ made status' output' heard'
+same_answer {status = status} {status' = status'} {output = output} {output' = output'} {heard = heard} statuses outputs times =
+    ap (λ s. made s output heard) statuses ∙ (ap (λ o. made status' o heard) outputs ∙ ap (made status' output') times)
 
 none_some : {a : List ℕ} → None ≡ Some a → ⊥
 none_some h = absurd (cc)
@@ -61,39 +66,33 @@ module _ (says : File → List Report) where
   no_file_of : (name : List ℕ) (found : Option (List ℕ)) → found ≡ None → IsOfName says name found (stopped (NoFile (chars name)))
   no_file_of name found none = record { gives = no_file none refl; only = no_file_only name found none }
 
-  -- bytes that aren't read yet
-  not_yet_bytes : (name bytes : List ℕ) → IsNotYet bytes → (other : Answer) → OfBytes says name bytes other →
-      other ≡ stopped (NotYet (chars name))
-  not_yet_bytes name bytes not other (not_yet not' is) = is
-  not_yet_bytes name bytes (inl long) other (linted body reports short small ordered is) = absurd (omega (arith, long, short))
-  not_yet_bytes name bytes (inr none) other (linted body reports short small ordered is) = absurd (none body small)
+  -- more bytes than are read
+  too_long_bytes : (name bytes : List ℕ) → most_bytes < length bytes → (other : Answer) → OfBytes says name bytes other →
+      other ≡ stopped (TooLong (chars name))
+  too_long_bytes name bytes long other (too_long long' is) = is
+  too_long_bytes name bytes long other (linted linting short lints is) = absurd (omega (arith, long, short))
 
-  not_yet_only : (name bytes : List ℕ) (found : Option (List ℕ)) → found ≡ Some bytes → IsNotYet bytes → (other : Answer) →
-      OfName says name found other → other ≡ stopped (NotYet (chars name))
-  not_yet_only name bytes found some not other (no_file none is) = absurd (none_some (sym none ∙ some))
-  not_yet_only name bytes found some not other (held bytes' some' of) =
-      not_yet_bytes name bytes' (subst IsNotYet (some_bytes (sym some ∙ some')) not) other of
+  too_long_only : (name bytes : List ℕ) (found : Option (List ℕ)) → found ≡ Some bytes → most_bytes < length bytes →
+      (other : Answer) → OfName says name found other → other ≡ stopped (TooLong (chars name))
+  too_long_only name bytes found some long other (no_file none is) = absurd (none_some (sym none ∙ some))
+  too_long_only name bytes found some long other (held bytes' some' of) =
+      too_long_bytes name bytes' (subst (λ b. most_bytes < length b) (some_bytes (sym some ∙ some')) long) other of
 
-  not_yet_of : (name bytes : List ℕ) (found : Option (List ℕ)) → found ≡ Some bytes → IsNotYet bytes →
-      IsOfName says name found (stopped (NotYet (chars name)))
-  not_yet_of name bytes found some not =
-      record { gives = held bytes some (not_yet not refl); only = not_yet_only name bytes found some not }
+  too_long_of : (name bytes : List ℕ) (found : Option (List ℕ)) → found ≡ Some bytes → most_bytes < length bytes →
+      IsOfName says name found (stopped (TooLong (chars name)))
+  too_long_of name bytes found some long =
+      record { gives = held bytes some (too_long long refl); only = too_long_only name bytes found some long }
 
-  -- the bytes of a small text
+  -- bytes that are linted
   linted_is : (name bytes : List ℕ) (outcome : Outcome) (on : IsReportOn says name bytes outcome) →
-      answer_of outcome ≡ reported name bytes on.reports
-  linted_is name bytes outcome on =
-      ap (λ status. printed status (string_bytes outcome.text)) on.status ∙ ap (printed (status_of on.reports)) on.text
+      answer_of outcome ≡ reported name on.linting
+  linted_is name bytes outcome on = same_answer on.status on.text on.heard
 
   linted_bytes : (name bytes : List ℕ) (outcome : Outcome) → length bytes ≤ most_bytes → IsReportOn says name bytes outcome →
       (other : Answer) → OfBytes says name bytes other → other ≡ answer_of outcome
-  linted_bytes name bytes outcome short on other (not_yet (inl long) is) = absurd (omega (arith, long, short))
-  linted_bytes name bytes outcome short on other (not_yet (inr none) is) = absurd (none on.body on.small)
-  linted_bytes name bytes outcome short on other (linted body reports short' small ordered is) =
-      let same : body ≡ on.body = on.only body small in
-      let one : reports ≡ on.reports = one_order (says (small_file bytes on.body)) on.reports reports on.ordered
-      (subst (λ b. IsInOrder (says (small_file bytes b)) reports) same ordered) in
-      is ∙ ap (reported name bytes) one ∙ sym (linted_is name bytes outcome on)
+  linted_bytes name bytes outcome short on other (too_long long is) = absurd (omega (arith, long, short))
+  linted_bytes name bytes outcome short on other (linted linting short' lints is) =
+      is ∙ ap (reported name) (on.lints.only linting lints) ∙ sym (linted_is name bytes outcome on)
 
   linted_only : (name bytes : List ℕ) (found : Option (List ℕ)) (outcome : Outcome) → found ≡ Some bytes → length bytes ≤ most_bytes →
       IsReportOn says name bytes outcome → (other : Answer) → OfName says name found other → other ≡ answer_of outcome
@@ -104,7 +103,7 @@ module _ (says : File → List Report) where
   linted_of : (name bytes : List ℕ) (found : Option (List ℕ)) (outcome : Outcome) → found ≡ Some bytes → length bytes ≤ most_bytes →
       IsReportOn says name bytes outcome → IsOfName says name found (answer_of outcome)
   linted_of name bytes found outcome some short on = record {
-    gives = held bytes some (linted on.body on.reports short on.small on.ordered (linted_is name bytes outcome on));
+    gives = held bytes some (linted on.linting short on.lints.gives (linted_is name bytes outcome on));
     only = linted_only name bytes found outcome some short on;
   }
 
@@ -119,9 +118,9 @@ module _ (given : Given) where
       (no_file_of given.says name (finite.get given.held name) (missing refl)))
   fault_answer name shown read.TooLong names is missing long = λ settled.
       let more = long refl in
-      subst (λ n. IsTheAnswer given (stopped (NotYet n))) (sym is)
-      (named_answer given name (stopped (NotYet (chars name))) names
-      (not_yet_of given.says name more.0 (finite.get given.held name) more.1 (inl more.2)))
+      subst (λ n. IsTheAnswer given (stopped (TooLong n))) (sym is)
+      (named_answer given name (stopped (TooLong (chars name))) names
+      (too_long_of given.says name more.0 (finite.get given.held name) more.1 more.2))
   fault_answer name shown read.Failed names is missing long = λ settled. absurd settled
   fault_answer name shown read.NoMemory names is missing long = tt
 
@@ -131,12 +130,3 @@ module _ (given : Given) where
   report_answer name bytes outcome names some short on =
       named_answer given name (answer_of outcome) names
       (linted_of given.says name bytes (finite.get given.held name) outcome some short on)
-
-  -- bytes of the name that are no small text
-  pub no_report_answer : (name shown bytes : List ℕ) → Names given.arguments name → shown ≡ chars name →
-      finite.get given.held name ≡ Some bytes → ((body : List Shape) → IsSmallText bytes body → ⊥) →
-      IsTheAnswer given (stopped (NotYet shown))
-  no_report_answer name shown bytes names is some none =
-      subst (λ n. IsTheAnswer given (stopped (NotYet n))) (sym is)
-      (named_answer given name (stopped (NotYet (chars name))) names
-      (not_yet_of given.says name bytes (finite.get given.held name) some (inr none)))

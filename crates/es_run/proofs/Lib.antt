@@ -1,15 +1,7 @@
-pub mod Ascii
-pub mod CharactersLemmas
 pub mod FreshLemmas
-pub mod InsideLemmas
 pub mod KitsLemmas
+pub mod MessagesLemmas
 pub mod OrderLemmas
-pub mod Parsing
-pub mod Parts
-pub mod Programs
 pub mod RunsLemmas
-pub mod Sequences
 pub mod StagesLemmas
-pub mod Statements
 pub mod StylishLemmas
-pub mod WordLemmas

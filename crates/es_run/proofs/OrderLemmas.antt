@@ -1,13 +1,15 @@
 -- One list alone is in order: what a stable sort may give is given by its list and its key.
 use Rattle.std.proofs.Common.{take, drop, ◌++◌, ℕ, suc, ◌≤◌, ◌≡◌, Bool, true, false, cond, not, ◌&&◌, List, [], ◌∷◌, length, refl, sym, ap, subst, ◌∙◌, arith}
-use Rattle.std.specs.List.{All, filter}
-use Rattle.std.specs.List.Sorted.{ties, IsNonDecreasingBy}
+use Rattle.std.specs.List.{All, filter, list_all}
+use Rattle.std.specs.List.Sorted.{IsPermutation, ties, IsNonDecreasingBy}
 use Rattle.std.specs.Ordering.{nat_cmp, is_lt}
 use Rattle.std.proofs.lemmas.Bool.Decides.{nat_tests}
 use Rattle.std.proofs.Math.Seq.{take-append_seam}
 use Rattle.std.proofs.lemmas.List.Elements.{All-filter, All-head}
-use Rattle.std.proofs.lemmas.List.Sorted.{IsNonDecreasingBy-from_sort}
+use Rattle.std.proofs.lemmas.List.Sorted.{All-permutation, IsNonDecreasingBy-from_sort}
+use Rattle.std.proofs.lemmas.List.Sums.{AllPass-from_list_all, list_all-from_AllPass}
 use Rattle.es_text.specs.declared.finding.Report.{Report}
+use Rattle.es_text.specs.Spans.{is_part}
 use Rattle.es_run.specs.Order.{IsInOrder, start_of}
 
 not_below_itself : (a : ℕ) → is_lt (nat_cmp a a) ≡ false
@@ -75,3 +77,10 @@ in_order_in_whole given slice ordered count same long kept h =
     let back : take count (ordered ++ drop (length ordered) given) ≡ ordered =
     ap (λ n. take n (ordered ++ drop (length ordered) given)) (sym long ∙ sym kept) ∙ take-append_seam ordered (drop (length ordered) given) in
     subst (IsInOrder given) (sym back) (subst (λ list. IsInOrder list ordered) same h)
+
+-- reports lie in a text in any order
+pub parts_in_order : (bytes : List ℕ) (given ordered : List Report) → IsPermutation given ordered →
+    list_all (λ report. is_part bytes report.span) given ≡ true → list_all (λ report. is_part bytes report.span) ordered ≡ true
+parts_in_order bytes given ordered same h =
+    let fits : Report → Bool = λ report. is_part bytes report.span in
+    list_all-from_AllPass fits ordered (All-permutation (λ report. fits report ≡ true) given ordered same (AllPass-from_list_all fits given h))

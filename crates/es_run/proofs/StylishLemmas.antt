@@ -5,11 +5,12 @@ use Rattle.std.proofs.lemmas.Str.Ascii.{encodes-IsAscii, IsAscii-cons, IsAscii-n
 use Rattle.std.proofs.lemmas.Fmt.{IsAscii-decimal}
 use Rattle.std.proofs.lemmas.List.{take_more, flat_map_more}
 use Rattle.std.specs.List.{flat_map}
+use Rattle.std.specs.Prelude.{Option, Some}
 use Rattle.std.specs.Str.{IsUtf8, IsAscii, chars}
 use Rattle.std.specs.Fmt.{decimal}
 use lib.Utf8.{encode}
 use Rattle.es_text.specs.declared.span.Place.{Place}
-use Rattle.es_run.specs.Stylish.{Problem, line_end, place_text, widest, padded, problem_line, ending_of, counted, summary}
+use Rattle.es_run.specs.Stylish.{Problem, line_end, message, place_text, widest, padded, problem_line, ending_of, counted, summary}
 
 -- an ASCII character is one byte
 pub encodes-cons : (c : ℕ) (cs : List ℕ) → c < 128 → encode_utf8_all (c ∷ cs) ≡ c ∷ encode_utf8_all cs
@@ -43,10 +44,23 @@ chars-place place line column = chars-IsAscii _ (IsAscii-place place line column
 pub encodes-problem_line : (place_width text_width : ℕ) (problem : Problem)
     → encode_utf8_all (problem_line place_width text_width problem)
     ≡ codes "  " ++ (encode_utf8_all (padded place_width (place_text problem.place))
-    ++ (codes "  error  " ++ (encode_utf8_all (padded text_width problem.text)
-    ++ (codes "  " ++ (encode_utf8_all problem.rule ++ line_end)))))
+    ++ (codes "  error  " ++ (encode_utf8_all (message text_width problem.text problem.rule) ++ line_end)))
 unfolding encode
 encodes-problem_line place_width text_width problem = simp (encodes-append, append_assoc)
+
+-- the bytes of a message and the rule's id
+encodes-message : (width : ℕ) (text rule : List ℕ)
+    → encode_utf8_all (padded width text ++ (codes "  " ++ rule))
+    ≡ encode_utf8_all (padded width text) ++ (codes "  " ++ encode_utf8_all rule)
+unfolding encode
+encodes-message width text rule = simp (encodes-append, append_assoc)
+
+pub encodes-message_of : (width : ℕ) (text : List ℕ) (made : Option (List ℕ)) (rule : List ℕ) → made ≡ Some rule
+    → encode_utf8_all (message width text made)
+    ≡ encode_utf8_all (padded width text) ++ (codes "  " ++ encode_utf8_all rule)
+unfolding message
+encodes-message_of width text made rule is =
+    ap (λ (r : Option (List ℕ)). encode_utf8_all (message width text r)) is ∙ encodes-message width text rule
 
 encodes-decimal : (number : ℕ) → number < 2 ^ 64 → encode_utf8_all (decimal number) ≡ decimal number
 encodes-decimal number small = encodes-IsAscii (decimal number) (IsAscii-decimal number small)

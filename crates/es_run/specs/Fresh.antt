@@ -1,20 +1,17 @@
 -- A fresh run: what is printed, told and answered, by what the rules say of a file, by the arguments and by what is held.
 -- Nothing here knows of a fault of the outside, nor of being out of memory.
-use Rattle.std.specs.Prelude.{◌≡◌, ℕ, ◌<◌, ◌≤◌, ◌⊎◌, List, [], ◌∷◌, length, map, Option, Some, None, unwrap_or}
+use Rattle.std.specs.Prelude.{◌≡◌, ℕ, ◌<◌, ◌≤◌, List, [], ◌∷◌, length, Option, Some, None}
 use Rattle.std.specs.Str.{chars}
 use Rattle.std.specs.FinMap as finite
 use Rattle.es_text.specs.declared.finding.Report.{Report}
-use Rattle.es_text.specs.Texts.{place_at, text_of}
-use Rattle.es_tree.specs.declared.shape.Shape.{Shape}
-use Rattle.es_tree.specs.Numbering.{rows_of}
-use Rattle.es_host.specs.Events.{File, pair}
+use Rattle.es_text.specs.Texts.{text_of}
+use Rattle.es_host.specs.Events.{File}
 use Rattle.es_files.specs.Outside.{Held}
 use Rattle.es_run.specs.declared.status.Status.{Status}
 use Rattle.es_run.specs.declared.status.Status.TheVariants.{Clean, Problems, Stopped}
 use Rattle.es_run.specs.declared.status.StopCause.{StopCause}
-use Rattle.es_run.specs.declared.status.StopCause.TheVariants.{BadWords, NoFile, NotYet}
-use Rattle.es_run.specs.Order.{IsInOrder}
-use Rattle.es_run.specs.SmallText.{IsSmallText, program}
+use Rattle.es_run.specs.declared.status.StopCause.TheVariants.{BadWords, NoFile, TooLong}
+use Rattle.es_run.specs.Messages.{Linting, Lints, source_type_of}
 use Rattle.es_run.specs.Statuses.{fault_line}
 use Rattle.es_run.specs.Stylish.{Problem, stylish_of}
 use Rattle.es_run.specs.Arguments.{Names, NoName}
@@ -25,59 +22,40 @@ pub record Given : Type 0 where
   pub arguments : List (List ℕ)
   pub held : Held
 
--- what a run gives: its status, its output, and its line on standard error
+-- what a run gives: its status, its output, its line on standard error, and how often its rules listened
 pub record Answer : Type 0 where
   pub status : Status
   pub output : List ℕ
   pub line : List ℕ
-
--- the answer of a run that prints this
-abbrev pub printed : Status → List ℕ → Answer
-printed status output = record { status = status; output = output; line = [] }
+  pub heard : ℕ
 
 -- the answer of a run that stops: no output, and the line of the cause
 abbrev pub stopped : StopCause → Answer
-stopped cause = record { status = Stopped cause; output = []; line = fault_line cause }
+stopped cause = record { status = Stopped cause; output = []; line = fault_line cause; heard = 0 }
 
--- a file without a report is clean
-abbrev pub status_of : List Report → Status
+-- a file of which nothing is printed is clean
+abbrev pub status_of : List Problem → Status
 status_of [] = Clean
-status_of (report ∷ reports) = Problems
+status_of (problem ∷ problems) = Problems
 
--- what is printed of a report, in a text of these characters
-abbrev pub problem_of : List ℕ → Report → Problem
-problem_of characters report = record {
-  place = place_at characters report.span.start;
-  text = report.text;
-  rule = unwrap_or report.rule [];
+-- the answer of a run that prints what the linting of a file of this name gives
+abbrev pub reported : List ℕ → Linting → Answer
+reported name linting = record {
+  status = status_of linting.problems;
+  output = stylish_of name linting.problems;
+  line = [];
+  heard = linting.heard;
 }
-
--- what is printed of reports on a file of these bytes
-abbrev pub problems_of : List ℕ → List Report → List Problem
-problems_of bytes reports = map (problem_of (text_of bytes).characters) reports
-
--- the answer of a run that prints the reports on a file of this name and these bytes
-abbrev pub reported : List ℕ → List ℕ → List Report → Answer
-reported name bytes reports = printed (status_of reports) (stylish_of name (problems_of bytes reports))
 
 -- how many bytes of a file are read
 abbrev pub most_bytes : ℕ
-most_bytes = 65536
-
--- the file isn't read yet: it is too long, or no small text
-abbrev pub IsNotYet : List ℕ → Type 0
-IsNotYet bytes = (most_bytes < length bytes) ⊎ ((body : List Shape) → IsSmallText bytes body → ⊥)
-
--- what rules hear: the text of a small text's bytes, and the rows of its tree
-abbrev pub small_file : List ℕ → List Shape → File
-small_file bytes body = pair (text_of bytes) (rows_of (program bytes body))
+most_bytes = 2097152
 
 -- the answer for a file of this name and these bytes
 pub data OfBytes (says : File → List Report) (name bytes : List ℕ) (answer : Answer) : Type 0 where
-  not_yet : IsNotYet bytes → answer ≡ stopped (NotYet (chars name)) → OfBytes says name bytes answer
-  linted : (body : List Shape) (reports : List Report) → length bytes ≤ most_bytes → IsSmallText bytes body →
-      IsInOrder (says (small_file bytes body)) reports → answer ≡ reported name bytes reports →
-      OfBytes says name bytes answer
+  too_long : most_bytes < length bytes → answer ≡ stopped (TooLong (chars name)) → OfBytes says name bytes answer
+  linted : (linting : Linting) → length bytes ≤ most_bytes → Lints says (source_type_of name) (text_of bytes) linting →
+      answer ≡ reported name linting → OfBytes says name bytes answer
 
 -- the answer for a name, under which these bytes are held, or none
 pub data OfName (says : File → List Report) (name : List ℕ) (found : Option (List ℕ)) (answer : Answer) : Type 0 where

@@ -1,5 +1,5 @@
 -- What a run makes of its kits.
-use Rattle.std.specs.Prelude.{◌≡◌, ℕ, ◌⊎◌, List, [], ◌∷◌, map}
+use Rattle.std.specs.Prelude.{◌≡◌, ℕ, zero, suc, ◌⊎◌, List, [], ◌∷◌, map}
 use Rattle.es_text.specs.declared.finding.Finding.{Finding}
 use Rattle.es_text.specs.declared.finding.Report.{Report}
 use Rattle.es_host.specs.Events.{File}
@@ -24,6 +24,11 @@ lints_of kits = map (λ kit. kit.lints) kits
 abbrev pub first_ticked : List ℕ → List ℕ
 first_ticked [] = []
 first_ticked (first ∷ rest) = one_more first ∷ rest
+
+-- the first kit listened this often, once at most
+abbrev pub first_heard : ℕ → List ℕ → List ℕ
+first_heard zero before = before
+first_heard (suc times) before = first_ticked before
 
 -- the first kit listened once, or none did
 abbrev pub ListensAtMostOnce : List ℕ → List ℕ → Type 0

@@ -1,13 +1,9 @@
 pub mod Arguments
-pub mod Characters
-pub mod Found
 pub mod Fresh
-pub mod Inside
 pub mod Kits
+pub mod Messages
 pub mod Order
-pub mod Reading
 pub mod Runs
-pub mod SmallText
 pub mod Stages
 pub mod Statuses
 pub mod Stylish

@@ -7,8 +7,9 @@ use Rattle.es_host.specs.Events.{File}
 use Rattle.es_files.specs.Outside.{FilesState, HasFailed, Held, SentPart, SinkState, reading, with_sent}
 use Rattle.es_run.specs.declared.status.Status.{Status}
 use Rattle.es_run.specs.declared.status.Status.TheVariants.{Clean, Problems, Stopped, NoMemory}
-use Rattle.es_run.specs.declared.status.StopCause.TheVariants.{BadWords, NoFile, NotYet, CannotRead, CannotPrint}
+use Rattle.es_run.specs.declared.status.StopCause.TheVariants.{BadWords, NoFile, TooLong, CannotRead, CannotPrint}
 use Rattle.es_run.specs.Fresh.{Answer, Given, IsTheAnswer}
+use Rattle.es_run.specs.Kits.{first_heard}
 use Rattle.es_run.specs.Arguments.{Names}
 
 -- ---- statuses
@@ -19,7 +20,7 @@ IsSettled Clean = Unit {0}
 IsSettled Problems = Unit {0}
 IsSettled (Stopped BadWords) = Unit {0}
 IsSettled (Stopped (NoFile name)) = Unit {0}
-IsSettled (Stopped (NotYet name)) = Unit {0}
+IsSettled (Stopped (TooLong name)) = Unit {0}
 IsSettled (Stopped (CannotRead name)) = ⊥
 IsSettled (Stopped CannotPrint) = ⊥
 IsSettled NoMemory = ⊥
@@ -44,7 +45,7 @@ IsSilent Clean = ⊥
 IsSilent Problems = ⊥
 IsSilent (Stopped BadWords) = Unit {0}
 IsSilent (Stopped (NoFile name)) = Unit {0}
-IsSilent (Stopped (NotYet name)) = Unit {0}
+IsSilent (Stopped (TooLong name)) = Unit {0}
 IsSilent (Stopped (CannotRead name)) = Unit {0}
 IsSilent (Stopped CannotPrint) = ⊥
 IsSilent NoMemory = ⊥
@@ -83,6 +84,12 @@ pub record DoesAsFresh (given : Given) (result : Status) (before now : Sinks) : 
   pub status : result ≡ answer.status
   pub printed : now.out ≡ with_sent before.out answer.output
   pub told : IsTold before.err answer.line now.err
+
+-- the rules of the first kit listened as often as those of a fresh run
+pub record ListensAsFresh (given : Given) (before now : List ℕ) : Type 0 where
+  pub answer : Answer
+  pub fresh : IsTheAnswer given answer
+  pub listens : now ≡ first_heard answer.heard before
 
 -- printing the output of a fresh run failed, which tells nothing and does nothing else: some first part of it went out
 pub record PrintsPart (given : Given) (before now : SinkState) : Type 0 where

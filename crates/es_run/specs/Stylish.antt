@@ -1,14 +1,14 @@
 -- The stylish report of one file, of which every problem is an error. Its parts are lists of characters.
-use Rattle.std.specs.Prelude.{ℕ, ◌-◌, List, [], ◌∷◌, ◌++◌, length, map, max, replicate, codes, encode_utf8_all, ◌==◌, if◌then◌else◌}
+use Rattle.std.specs.Prelude.{ℕ, ◌-◌, Option, Some, None, List, [], ◌∷◌, ◌++◌, length, map, max, replicate, codes, encode_utf8_all, ◌==◌, if◌then◌else◌}
 use Rattle.std.specs.Fmt.{decimal}
 use Rattle.std.specs.List.{flat_map}
 use Rattle.es_text.specs.declared.span.Place.{Place}
 
--- a problem of the file: its place, its message and the id of its rule
+-- a problem of the file: its place, its message and the id of its rule, if a rule made it
 pub record Problem : Type 0 where
   pub place : Place
   pub text : List ℕ
-  pub rule : List ℕ
+  pub rule : Option (List ℕ)
 
 -- LF
 abbrev pub line_end : List ℕ
@@ -31,12 +31,16 @@ space = 32
 abbrev pub padded : ℕ → List ℕ → List ℕ
 padded width text = text ++ replicate (width - length text) space
 
+-- the message at this width and the rule's id, or the message alone where no rule made it
+unfoldable pub message : ℕ → List ℕ → Option (List ℕ) → List ℕ
+message width text None = text
+message width text (Some rule) = padded width text ++ (codes "  " ++ rule)
+
 -- the line of one problem, where the places and the messages of the file have these widths
 abbrev pub problem_line : ℕ → ℕ → Problem → List ℕ
 problem_line place_width text_width problem =
     codes "  " ++ (padded place_width (place_text problem.place)
-    ++ (codes "  error  " ++ (padded text_width problem.text
-    ++ (codes "  " ++ (problem.rule ++ line_end)))))
+    ++ (codes "  error  " ++ (message text_width problem.text problem.rule ++ line_end)))
 
 -- the widths of the places and of the messages
 abbrev pub widest_place : List Problem → ℕ

@@ -3,16 +3,12 @@
 #![tactic(auto)]
 
 mod arguments;
-mod characters;
+mod fatal;
 mod order;
 mod report;
 mod runner;
-mod small;
 mod status;
 mod stylish;
 
 pub use runner::run;
 pub use status::{Status, StopCause, status_code};
-
-#[cfg(test)]
-mod order_tests;

@@ -1,61 +1,82 @@
 //! The report on one file.
-ghost use Rattle.std.specs.Prelude.{◌≡◌, ◌≤◌, ◌⊎◌, [], true, unwrap_or, IfOk, MatchOption, length, map};
+ghost use Rattle.std.specs.Prelude.{◌≡◌, ◌≤◌, ◌<◌, ◌⊎◌, true, IfErr, IfOk, if◌then◌else◌, length, map};
 ghost use Rattle.std.specs.List.{list_all};
-ghost use Rattle.std.specs.Str.{IsAscii};
+ghost use Rattle.es_text.specs.Spans.{is_part};
 ghost use Rattle.es_text.specs.Texts.{text_bytes, text_of};
 ghost use Rattle.es_host.specs.Kits.{SameRules};
 ghost use Rattle.es_host.specs.Reports.{kit_says};
-ghost use Rattle.es_host.specs.Spans.{is_part};
 ghost use Rattle.es_files.specs.Outside.{one_more};
-ghost use Rattle.es_run.specs.Fresh.{most_bytes, problem_of};
-ghost use Rattle.es_run.specs.Stages.{Reports};
+ghost use Rattle.es_parser.specs.Parsing.{AreInText, IsFault, IsInText, IsParsed};
+ghost use Rattle.es_run.specs.Fresh.{most_bytes};
+ghost use Rattle.es_run.specs.Messages.{IsTheLinting, problem_of, source_type_of};
+ghost use Rattle.es_run.specs.Stages.{IsReportOn, IsSaid, linting_of};
 
+use crate::fatal::unparsed;
 use crate::order::in_order;
-use crate::small::parse;
 use crate::stylish::{Problem, stylish};
 use es_host::{Kit, Rule, listen};
-use es_text::{NoMemory, Report, Source, SourceFault, Txt};
+use es_parser::{ParseFault, one_parse, parse};
+use es_text::{NoMemory, Report, Source, SourceFault, SourceType, Steps, parts_lie};
+use es_tree::{Parsed, Tree};
 use std::alloc::Global;
+use std::marker::Brand;
+use std::sync::ledger::{Blank, Ledger};
 
-/// The stylish report, and whether it has no problem.
+/// The stylish report, whether it has no problem, and whether the rules were heard.
 #[derive(Drop)]
 pub(crate) struct Outcome {
     pub(crate) text: String,
     pub(crate) clean: bool,
+    pub(crate) heard: bool,
 }
 
-/// What the kit says of the bytes of a file of this name, or `None` where they are no small text.
+/// What is printed of a file, and whether the rules were heard.
+#[derive(Drop)]
+pub(crate) struct Found {
+    pub(crate) problems: Vec<Problem>,
+    pub(crate) heard: bool,
+}
+
+/// What the kit says of the bytes of a file of this name, or the one message where they aren't parsed.
 pub(crate) fn report_on<R: Rule>(
     alloc: Global,
     name: &str,
     bytes: &[u8],
     kit: &mut Kit<R>,
-) -> Result<Option<Outcome>, NoMemory>
+) -> Result<Outcome, NoMemory>
     requires { length bytes.now ≤ most_bytes }
-    ensures report { IfOk result (Reports (kit_says R.id R.says kit.old) name.now bytes.now) }
+    ensures report { IfOk result (IsReportOn (kit_says R.id R.says kit.old) name.now bytes.now) }
     ensures same { SameRules R.id R.interest R.says kit.new.rules kit.old.rules }
-    ensures lints { IfOk result (λ found. MatchOption found (kit.new.lints ≡ kit.old.lints)
-        (λ _. kit.new.lints ≡ one_more kit.old.lints)) }
+    ensures lints { IfOk result (λ outcome. kit.new.lints ≡
+        (if outcome.heard then one_more kit.old.lints else kit.old.lints)) }
     ensures once { (kit.new.lints ≡ kit.old.lints) ⊎ (kit.new.lints ≡ one_more kit.old.lints) }
 {
-    let Some(tree) = parse(alloc, bytes)? else {
-        return Ok(None);
-    };
     let source = source_of(alloc, bytes)?;
-    let reports = in_order(alloc, listen(alloc, &source, &tree, kit)?)?;
-    let said = problems_of(alloc, &source, reports)?;
-    let problems = said.as_slice();
-    Ok(Some(Outcome {
+    let found = lint(alloc, &source, source_type_of(name), kit)?;
+    let problems = found.problems.as_slice();
+    Ok(Outcome {
         text: stylish(alloc, name, problems)?,
         clean: problems.is_empty(),
-    }))
+        heard: found.heard,
+    })
+}
+
+/// What a file of this name is read as.
+#[tactic(auto, unfolding(crate::specs::Messages::source_type_of))]
+fn source_type_of(name: &str) -> SourceType
+    ensures { result ≡ source_type_of name.now }
+{
+    if name.as_bytes().ends_with(b".cjs") {
+        SourceType::Commonjs
+    } else {
+        SourceType::Module
+    }
 }
 
 /// The source of so few bytes.
 fn source_of(alloc: Global, bytes: &[u8]) -> Result<Source, NoMemory>
     requires { length bytes.now ≤ most_bytes }
-    ensures source { IfOk result (λ source. source ≡ text_of bytes.now) }
-    ensures ascii { IfOk result (λ source. IsAscii bytes.now → source.characters ≡ bytes.now) }
+    ensures { IfOk result (λ source. source ≡ text_of bytes.now) }
 {
     match Source::new(alloc, bytes) {
         Ok(source) => Ok(source),
@@ -64,32 +85,67 @@ fn source_of(alloc: Global, bytes: &[u8]) -> Result<Source, NoMemory>
     }
 }
 
-/// The id of a report's rule, which is empty where no rule made the report.
-fn rule_id(alloc: Global, rule: Option<Txt>) -> Result<Txt, NoMemory>
-    ensures { IfOk result (λ id. id ≡ unwrap_or rule []) }
+/// What is printed of the source.
+fn lint<R: Rule>(
+    alloc: Global,
+    source: &Source,
+    source_type: SourceType,
+    kit: &mut Kit<R>,
+) -> Result<Found, NoMemory>
+    ensures linting { IfOk result (λ found.
+        IsTheLinting (kit_says R.id R.says kit.old) source_type source.now (linting_of found)) }
+    ensures same { SameRules R.id R.interest R.says kit.new.rules kit.old.rules }
+    ensures lints { IfOk result (λ found. kit.new.lints ≡
+        (if found.heard then one_more kit.old.lints else kit.old.lints)) }
+    ensures once { (kit.new.lints ≡ kit.old.lints) ⊎ (kit.new.lints ≡ one_more kit.old.lints) }
 {
-    match rule {
-        Some(id) => Ok(id),
-        None => Txt::new(alloc, ""),
+    one_parse();
+    match counted_parse::<Brand>(alloc, source, source_type, Blank::new(1)) {
+        Ok(parsed) => Ok(Found {
+            problems: said(alloc, source, &parsed.tree, kit)?,
+            heard: true,
+        }),
+        Err(fault) => Ok(Found {
+            problems: unparsed(alloc, source, fault)?,
+            heard: false,
+        }),
     }
 }
 
-/// What is printed of a report on the source.
-fn problem_of(alloc: Global, source: &Source, report: Report) -> Result<Problem, NoMemory>
-    requires { is_part (text_bytes source.now) report.span ≡ true }
-    ensures { IfOk result (λ problem. problem ≡ problem_of source.now.characters report) }
+/// What parsing the source gives, on a count of its own.
+fn counted_parse<L: Ledger>(
+    alloc: Global,
+    source: &Source,
+    source_type: SourceType,
+    blank: Blank,
+) -> Result<Parsed, ParseFault>
+    requires name { blank.name ≡ L.name }
+    requires parts { blank.parts ≡ L.parts }
+    requires some { 0 < blank.parts }
+    ensures parsed { IfOk result (IsParsed (text_bytes source.now) source_type) }
+    ensures fault { IfErr result (IsFault (text_bytes source.now) source_type) }
+    ensures spans { IfOk result (λ parsed. AreInText (text_bytes source.now) parsed.tree) }
+    ensures place { IfErr result (IsInText (text_bytes source.now)) }
 {
-    let Report {
-        rule,
-        text,
-        span,
-        ..
-    } = report;
-    Ok(Problem {
-        place: source.place(span.start),
-        text,
-        rule: rule_id(alloc, rule)?,
-    })
+    let mut steps = Steps::<L>::new(blank);
+    parse(alloc, source, source_type, &mut steps)
+}
+
+/// What is printed of what the kit says of the tree.
+fn said<R: Rule>(
+    alloc: Global,
+    source: &Source,
+    tree: &Tree,
+    kit: &mut Kit<R>,
+) -> Result<Vec<Problem>, NoMemory>
+    requires { AreInText (text_bytes source.now) tree.now }
+    ensures said { IfOk result (λ problems.
+        IsSaid (kit_says R.id R.says kit.old) source.now tree.now problems.items) }
+    ensures same { SameRules R.id R.interest R.says kit.new.rules kit.old.rules }
+    ensures lints { kit.new.lints ≡ one_more kit.old.lints }
+{
+    let reports = in_order(alloc, listen(alloc, source, tree, kit)?)?;
+    problems_of(alloc, source, reports)
 }
 
 /// What is printed of the reports on the source.
@@ -105,7 +161,26 @@ fn problems_of(
 {
     let mut problems = Vec::new(alloc);
     for report in reports {
-        problems.push(problem_of(alloc, source, report)?)?;
+        problems.push(problem_of(source, report))?;
     }
     Ok(problems)
+}
+
+/// What is printed of a report on the source.
+fn problem_of(source: &Source, report: Report) -> Problem
+    requires { is_part (text_bytes source.now) report.span ≡ true }
+    ensures { result ≡ problem_of source.now.characters report }
+{
+    parts_lie();
+    let Report {
+        rule,
+        text,
+        span,
+        ..
+    } = report;
+    Problem {
+        place: source.place(span.start),
+        text,
+        rule,
+    }
 }

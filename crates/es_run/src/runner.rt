@@ -3,8 +3,8 @@ ghost use Rattle.std.specs.Prelude.{◌≡◌, ◌≤◌, ◌⊎◌, ℕ, List, 
 ghost use Rattle.std.specs.Cow.{cow_str_bytes};
 ghost use Rattle.std.specs.Option.{ForSome};
 ghost use Rattle.es_files.specs.Outside.{FilesFailed, SentPart, SinkFailed, with_sent};
-ghost use Rattle.es_run.specs.Kits.{ListensAtMostOnce, first_says, first_ticked, lints_of, of_rules};
-ghost use Rattle.es_run.specs.Runs.{DoesAsFresh, IfCannotRead, IsDone, IsReported, IsSettled, IsSilent, IsTold, IsUnlessNoMemory, IsUnread, PrintsPart, given, sinks};
+ghost use Rattle.es_run.specs.Kits.{ListensAtMostOnce, first_heard, first_says, lints_of, of_rules};
+ghost use Rattle.es_run.specs.Runs.{DoesAsFresh, IfCannotRead, IsDone, IsReported, IsSettled, IsSilent, IsTold, IsUnlessNoMemory, IsUnread, ListensAsFresh, PrintsPart, given, sinks};
 ghost use Rattle.es_run.specs.Stages.{Blames, Foretells, IsPrintStatus, Listened, done_status, fault_of};
 ghost use Rattle.es_run.specs.Statuses.{fault_line, line_about};
 ghost use Rattle.es_run.specs.Arguments.{NoName};
@@ -20,7 +20,7 @@ use std::alloc::Global;
 use std::borrow::CowStr;
 
 /// The most bytes of a file that is read.
-const MOST_BYTES: u64 = 65_536;
+const MOST_BYTES: u64 = 2_097_152;
 
 /// What a fault of reading the name is to the run.
 fn fault_of(fault: ReadFault, name: Txt) -> Fault
@@ -28,7 +28,7 @@ fn fault_of(fault: ReadFault, name: Txt) -> Fault
 {
     match fault {
         ReadFault::Missing => Fault::Stop(StopCause::NoFile { name }),
-        ReadFault::TooLong => Fault::Stop(StopCause::NotYet { name }),
+        ReadFault::TooLong => Fault::Stop(StopCause::TooLong { name }),
         ReadFault::Failed => Fault::Stop(StopCause::CannotRead { name }),
         ReadFault::NoMemory => Fault::NoMemory,
     }
@@ -73,11 +73,7 @@ fn line_of(alloc: Global, cause: &StopCause) -> Result<CowStr<'static>, NoMemory
             "esl: no such file: ",
             name,
         )?),
-        StopCause::NotYet { name } => CowStr::Owned(line_about(
-            alloc,
-            "esl: not read yet: ",
-            name,
-        )?),
+        StopCause::TooLong { name } => CowStr::Owned(line_about(alloc, "esl: too long: ", name)?),
         StopCause::CannotRead { name } => CowStr::Owned(line_about(
             alloc,
             "esl: cannot read: ",
@@ -130,10 +126,7 @@ fn lint<R: Rule, F: Files>(
         Ok(bytes) => bytes,
         Err(fault) => return Err(fault_of(fault, name)),
     };
-    match report_on(alloc, file, bytes.as_slice(), &mut kits[0])? {
-        Some(outcome) => Ok(outcome),
-        None => Err(Fault::Stop(StopCause::NotYet { name })),
-    }
+    Ok(report_on(alloc, file, bytes.as_slice(), &mut kits[0])?)
 }
 
 /// Prints the report, as one piece.
@@ -232,9 +225,10 @@ pub fn run<R: Rule, F: Files, O: Sink, E: Sink>(
     ensures interests { of_rules R.interest kits.new.items ≡ of_rules R.interest kits.old.items }
     ensures says { of_rules R.says kits.new.items ≡ of_rules R.says kits.old.items }
 
-    // The first kit listens once where there is a report, and no other ever does.
-    ensures listens { IsReported result →
-        lints_of kits.new.items ≡ first_ticked (lints_of kits.old.items) }
+    // The first kit listens once where the file is parsed, and no other ever does.
+    ensures listens { IsReported result → ForSome (F.state files.old).holds (λ held.
+        ListensAsFresh (given (first_says R.id R.says kits.old.items) words.now held)
+        (lints_of kits.old.items) (lints_of kits.new.items)) }
     ensures rests { IsSilent result → lints_of kits.new.items ≡ lints_of kits.old.items }
     ensures once { ListensAtMostOnce (lints_of kits.old.items) (lints_of kits.new.items) }
 {

@@ -23,8 +23,8 @@ pub enum StopCause {
     BadWords,
     /// No file has this name.
     NoFile { name: Txt },
-    /// The file has more than 65,536 bytes, or isn't of the small grammar.
-    NotYet { name: Txt },
+    /// The file has more than 2,097,152 bytes.
+    TooLong { name: Txt },
     /// The file couldn't be read.
     CannotRead { name: Txt },
     /// The report couldn't be printed.
@@ -51,8 +51,8 @@ impl From<NoMemory> for Fault {
     }
 }
 
-/// The exit status of the program: 0 and 1 where it read the file, 2 where it stopped, and 3 where
-/// it was out of memory.
+/// The exit status of the program: 0 and 1 where it printed a report, 2 where it stopped, and 3
+/// where it was out of memory.
 pub fn status_code(status: &Status) -> u8
     ensures { result ≡ status_code_of status.now }
 {

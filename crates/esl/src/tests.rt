@@ -24,15 +24,16 @@ fn name_alone(alloc: Global, name: &str) -> Result<Vec<String>, Fail> {
     Ok(arguments)
 }
 
-/// Runs the rules over `a.js`. The output takes the first `left` bytes of its first call, which
-/// then fails.
+/// Runs the rules over the file of this name. The output takes the first `left` bytes of its first
+/// call, which then fails.
 fn run_over(
     alloc: Global,
     rules: Vec<Box<dyn Rule + Send>>,
     files: &mut MemoryFiles,
+    name: &str,
     left: Option<u64>,
 ) -> Result<Ran, Fail> {
-    let arguments = name_alone(alloc, "a.js")?;
+    let arguments = name_alone(alloc, name)?;
     let mut kits = Vec::new(alloc);
     kits.push(Kit::new(rules))?;
     let mut out = MemorySink::new(alloc)?;
@@ -64,10 +65,10 @@ fn plain_rules(alloc: Global) -> Result<Vec<Box<dyn Rule + Send>>, Fail> {
     Ok(rules)
 }
 
-/// Files in memory, of which `a.js` holds the text.
-fn files_of(alloc: Global, text: &str) -> Result<MemoryFiles, Fail> {
+/// Files in memory, of which this one holds the text.
+fn files_of(alloc: Global, name: &str, text: &str) -> Result<MemoryFiles, Fail> {
     let mut files = MemoryFiles::new(alloc)?;
-    files.hold(alloc, "a.js", text.as_bytes())?;
+    files.hold(alloc, name, text.as_bytes())?;
     Ok(files)
 }
 
@@ -78,38 +79,99 @@ fn expect(rt: &impl Abort, ran: &Ran, status: u8, out: &str, err: &str) {
     assert_eq!(rt; ran.err.got(), err.as_bytes());
 }
 
-#[test]
-fn a_report_is_printed(rt: HostRuntime) -> Result<(), Fail> {
-    let report = "
+/// A file with its text, what is printed of it, and whether the rule was heard.
+struct Case {
+    name: &'static str,
+    text: &'static str,
+    report: &'static str,
+    heard: bool,
+}
+
+// The places are counted by hand. A text that isn't parsed has one message, whatever stands before.
+static CASES: [Case; 5] = [
+    Case {
+        name: "a.js",
+        text: "a()\n",
+        report: "",
+        heard: true,
+    },
+    Case {
+        name: "a.js",
+        text: "\tdebugger\t;",
+        report: "
 a.js
   1:2  error  Unexpected 'debugger' statement.  no-debugger
 
 ✖ 1 problem (1 error, 0 warnings)
-";
-    let mut files = files_of(rt.alloc(), "\tdebugger\t;")?;
-    let ran = run_over(rt.alloc(), plain_rules(rt.alloc())?, &mut files, None)?;
-    expect(&rt, &ran, 1, report, "");
-    assert_eq!(rt; ran.lints, 1);
+",
+        heard: true,
+    },
+    Case {
+        name: "a.cjs",
+        text: "return;\n",
+        report: "",
+        heard: true,
+    },
+    Case {
+        name: "a.js",
+        text: "debugger; let a; var a;\n",
+        report: "
+a.js
+  1:22  error  Parsing error: early error E5.
+
+✖ 1 problem (1 error, 0 warnings)
+",
+        heard: false,
+    },
+    Case {
+        name: "a.js",
+        text: "debugger;\n  a b;\n",
+        report: "
+a.js
+  2:3  error  Parsing error: unreadable item.
+
+✖ 1 problem (1 error, 0 warnings)
+",
+        heard: false,
+    },
+];
+
+#[test]
+fn reports(rt: HostRuntime) -> Result<(), Fail> {
+    for case in &CASES {
+        let mut files = files_of(rt.alloc(), case.name, case.text)?;
+        let rules = plain_rules(rt.alloc())?;
+        let ran = run_over(rt.alloc(), rules, &mut files, case.name, None)?;
+        expect(
+            &rt,
+            &ran,
+            u8::from(!case.report.is_empty()),
+            case.report,
+            "",
+        );
+        assert_eq!(rt; ran.lints, u64::from(case.heard), "{}", case.text);
+    }
     Ok(())
 }
 
-/// Two rules on `a;;`: the first says the place of each empty statement, the second that of each
-/// name.
+/// Two rules, the first of which says the place of each empty statement, the second that of each
+/// name. The columns are as wide as their widest text.
 #[test]
 fn reports_of_two_rules_stand_by_their_places(rt: HostRuntime) -> Result<(), Fail> {
     let report = "
-a.js
-  1:1  error  name   name
-  1:3  error  empty  empty
+é.js
+  1:1   error  name   name
+  1:3   error  empty  empty
+  10:2  error  name   name
 
-✖ 2 problems (2 errors, 0 warnings)
+✖ 3 problems (3 errors, 0 warnings)
 ";
     let alloc = rt.alloc();
     let mut rules: Vec<Box<dyn Rule + Send>> = Vec::new(alloc);
     rules.push(Box::new(alloc, Watch::new(alloc, "empty", false, 0)?)?)?;
     rules.push(Box::new(alloc, Watch::new(alloc, "name", true, 0)?)?)?;
-    let mut files = files_of(alloc, "a;;\n")?;
-    let ran = run_over(alloc, rules, &mut files, None)?;
+    let mut files = files_of(alloc, "é.js", "a;;\n\n\n\n\n\n\n\n\n b")?;
+    let ran = run_over(alloc, rules, &mut files, "é.js", None)?;
     expect(&rt, &ran, 1, report, "");
     Ok(())
 }
@@ -122,7 +184,7 @@ fn a_kit_listens_again(rt: HostRuntime) -> Result<(), Fail> {
     rules.push(Box::new(alloc, Watch::new(alloc, "name", true, 1)?)?)?;
     let mut kits = Vec::new(alloc);
     kits.push(Kit::new(rules))?;
-    let mut files = files_of(alloc, "a;\n")?;
+    let mut files = files_of(alloc, "a.js", "a;\n")?;
     let arguments = name_alone(alloc, "a.js")?;
     let (mut out, mut err) = (SureSink::new(alloc)?, SureSink::new(alloc)?);
     let words = arguments.as_slice();
@@ -136,8 +198,8 @@ fn a_kit_listens_again(rt: HostRuntime) -> Result<(), Fail> {
 
 #[test]
 fn a_kit_without_rules_finds_nothing(rt: HostRuntime) -> Result<(), Fail> {
-    let mut files = files_of(rt.alloc(), "debugger;")?;
-    let ran = run_over(rt.alloc(), Vec::new(rt.alloc()), &mut files, None)?;
+    let mut files = files_of(rt.alloc(), "a.js", "debugger;")?;
+    let ran = run_over(rt.alloc(), Vec::new(rt.alloc()), &mut files, "a.js", None)?;
     expect(&rt, &ran, 0, "", "");
     assert_eq!(rt; ran.lints, 1);
     Ok(())
@@ -145,9 +207,15 @@ fn a_kit_without_rules_finds_nothing(rt: HostRuntime) -> Result<(), Fail> {
 
 #[test]
 fn a_failed_read_stops_a_run(rt: HostRuntime) -> Result<(), Fail> {
-    let mut files = files_of(rt.alloc(), "debugger;")?;
+    let mut files = files_of(rt.alloc(), "a.js", "debugger;")?;
     files.fail(rt.alloc(), false, 1, 0)?;
-    let ran = run_over(rt.alloc(), plain_rules(rt.alloc())?, &mut files, None)?;
+    let ran = run_over(
+        rt.alloc(),
+        plain_rules(rt.alloc())?,
+        &mut files,
+        "a.js",
+        None,
+    )?;
     expect(&rt, &ran, 2, "", "esl: cannot read: a.js\n");
     assert_eq!(rt; ran.lints, 0);
     Ok(())
@@ -157,8 +225,14 @@ fn a_failed_read_stops_a_run(rt: HostRuntime) -> Result<(), Fail> {
 #[test]
 fn a_failed_print_stops_a_run(rt: HostRuntime) -> Result<(), Fail> {
     for (text, printed) in [("debugger;", "\na."), ("a;\n", "")] {
-        let mut files = files_of(rt.alloc(), text)?;
-        let ran = run_over(rt.alloc(), plain_rules(rt.alloc())?, &mut files, Some(3))?;
+        let mut files = files_of(rt.alloc(), "a.js", text)?;
+        let ran = run_over(
+            rt.alloc(),
+            plain_rules(rt.alloc())?,
+            &mut files,
+            "a.js",
+            Some(3),
+        )?;
         expect(&rt, &ran, 2, printed, "esl: cannot print\n");
     }
     Ok(())
@@ -180,7 +254,7 @@ impl Sink for Poor {
 
 #[test]
 fn a_run_tells_that_it_is_out_of_memory(rt: HostRuntime) -> Result<(), Fail> {
-    let mut files = files_of(rt.alloc(), "a;\n")?;
+    let mut files = files_of(rt.alloc(), "a.js", "a;\n")?;
     let mut kits = Vec::new(rt.alloc());
     kits.push(Kit::new(plain_rules(rt.alloc())?))?;
     let arguments = name_alone(rt.alloc(), "a.js")?;

@@ -1,5 +1,5 @@
 use Rattle.std.proofs.Common.{◌≡◌, map}
-use Rattle.es_run.specs.Fresh.{problem_of}
+use Rattle.es_run.specs.Messages.{problem_of}
 use Rattle.es_run.proofs.report.problems_of.Given as goal
 
 abbrev pub invariant-loop-report : goal.invariant-loop-report

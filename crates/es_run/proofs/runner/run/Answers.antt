@@ -1,7 +1,7 @@
 use Rattle.std.proofs.Common.{subst, Err}
 use Rattle.es_run.specs.Kits.{first_says}
 use Rattle.es_run.specs.Runs.{given}
-use Rattle.es_run.specs.Stages.{Foretells}
+use Rattle.es_run.specs.Stages.{Foretells, answer_of}
 use Rattle.es_run.proofs.RunsLemmas.{printed_does, prints_part, prints_no_more, stopped_does}
 use Rattle.es_run.proofs.runner.run.Goals as goal
 
@@ -24,3 +24,7 @@ returns-in-Err-Stop-clause-fresh g c = λ settled held told.
     (subst (λ fault. Foretells (given (first_says g.R.Rule.id g.R.Rule.says c.args.kits.now.items) c.args.words.now held) (Err fault))
     c.in-Err-Stop.field-0-is (c.in-Err-Stop.ensures.fresh held told))
     c.refuse.ensures.status c.refuse.ensures.told settled
+
+pub returns-in-Ok-clause-listens : goal.returns-in-Ok-clause-listens
+returns-in-Ok-clause-listens g c = λ reported held told.
+    record { answer = answer_of c.in-Ok.outcome; fresh = c.in-Ok.ensures.fresh held told; listens = c.in-Ok.ensures.lints }

@@ -5,4 +5,4 @@ use Rattle.es_run.proofs.stylish.line_text.Goals as goal
 
 pub returns : goal.returns
 returns c =
-    grind (arith, common_steps, c.in_ok-format.ensures.ok, c.in_ok-place.ensures, c.in_ok-text.ensures, c.as_str.ensures.characters, encodes-problem_line c.args.widths.place c.args.widths.text c.args.problem.now)
+    grind (arith, common_steps, c.in_ok-format.ensures.ok, c.in_ok-place.ensures, c.in_ok-message.ensures, encodes-problem_line c.args.widths.place c.args.widths.text c.args.problem.now)

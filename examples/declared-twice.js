@@ -1,0 +1,4 @@
+let total = 0;
+{
+  var total = 1;
+}
