@@ -238,7 +238,7 @@ pub code_decoded : (i : ℕ) → code_of (decoded i) ≡ i
 unfolding decoded
 code_decoded i = code_by (nat_lt i 20) i refl
 
-same_code : (terminal other : Terminal) → code_of terminal ≡ code_of other → terminal ≡ other
+pub same_code : (terminal other : Terminal) → code_of terminal ≡ code_of other → terminal ≡ other
 same_code terminal other h = sym (decoded_code terminal) ∙ ap decoded h ∙ decoded_code other
 
 BeginsBelow : Terminal → ℕ → Type 0

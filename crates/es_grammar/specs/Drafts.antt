@@ -13,7 +13,7 @@ use Rattle.es_text.specs.Characters.{backslash, letter_n}
 use Rattle.es_tree.specs.declared.shape.AttributeValue.{AttributeValue}
 use Rattle.es_tree.specs.declared.shape.AttributeValue.TheVariants as value
 use Rattle.es_tree.specs.declared.shape.SetAttribute.{SetAttribute}
-use Rattle.es_tree.specs.declared.shape.Shape.{Shape, out-Shape, roll-Shape}
+use Rattle.es_tree.specs.declared.shape.Shape.{Shape}
 use Rattle.es_tree.specs.Shapes.{bare, with_attribute, with_child}
 pub use Rattle.es_grammar.specs.declared.draft.Child.{Child}
 pub use Rattle.es_grammar.specs.declared.draft.Draft.{Draft}

@@ -28,5 +28,9 @@ code_of t.UnaryOperator = 18
 code_of t.UpdateOperator = 19
 code_of (t.Spelled code) = 20 + code
 
+-- no two terminals have the same code
+abbrev pub OneCode : Type 0
+OneCode = (terminal other : Terminal) → code_of terminal ≡ code_of other → terminal ≡ other
+
 abbrev pub HasTerminal : ℕ → Terminal → Type 0
 HasTerminal set terminal = bit_at set (code_of terminal) ≡ 1

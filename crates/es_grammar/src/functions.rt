@@ -1,30 +1,35 @@
 //! Functions and classes. ECMA-262, 15.
+ghost use Rattle.std.specs.Prelude.{◌≡◌};
+ghost use Rattle.es_grammar.specs.Functions.{function_rule};
+ghost use Rattle.es_grammar.specs.Rules.{seen};
+
+use crate::modules::module_rule;
 use crate::notation::{
     any_number, becomes, becoming, check, choice, commas, deeper, flag, inside, kind, leaf, node,
-    option, plain, read, terminal, token, turns, words,
+    option, plain, read, rules, terminal, token, turns, words,
 };
 use crate::{
     Alternative, Change, Condition, Field, MemberKind, Part, Product, Rule, Symbol, Terminal, Turns,
 };
 use es_tree::kind;
 
-pub static FORMAL_PARAMETERS: Rule = commas![
+static FORMAL_PARAMETERS: Rule = commas![
     plain![read!(BindingElement)],
     node![REST_ELEMENT; token!("..."), read!(BindingTarget into Argument), check!(NoCommaNext)],
 ];
 
-pub static FUNCTION_REST: Rule = choice![plain![
+static FUNCTION_REST: Rule = choice![plain![
     token!("("),
     inside!(FormalParameters into Params),
     token!(")"),
     read!(FunctionBody into Body),
 ],];
 
-pub static FUNCTION_BODY: Rule = choice![node![BLOCK_STATEMENT;
+static FUNCTION_BODY: Rule = choice![node![BLOCK_STATEMENT;
         token!("{"), inside!(StatementList into Body), Part::Directives, token!("}"),
     ],];
 
-pub static FUNCTION_DECLARATION: Rule = choice![
+static FUNCTION_DECLARATION: Rule = choice![
     node![FUNCTION_DECLARATION;
         token!("async"), check!(SameLine), token!("function"), token!("*"),
         read!(BindingIdentifier into Id), read!(FunctionRest under AsyncGenerator), flag!(Async),
@@ -43,7 +48,7 @@ pub static FUNCTION_DECLARATION: Rule = choice![
     ],
 ];
 
-pub static DEFAULT_FUNCTION: Rule = choice![
+static DEFAULT_FUNCTION: Rule = choice![
     node![FUNCTION_DECLARATION;
         token!("async"), check!(SameLine), token!("function"), token!("*"),
         read!(OptionalName into Id), read!(FunctionRest under AsyncGenerator), flag!(Async),
@@ -62,7 +67,7 @@ pub static DEFAULT_FUNCTION: Rule = choice![
     ],
 ];
 
-pub static FUNCTION_EXPRESSION: Rule = choice![
+static FUNCTION_EXPRESSION: Rule = choice![
     node![FUNCTION_EXPRESSION;
         token!("async"), check!(SameLine), token!("function"), token!("*"),
         read!(OptionalName into Id), read!(FunctionRest under AsyncGenerator), flag!(Async),
@@ -81,7 +86,7 @@ pub static FUNCTION_EXPRESSION: Rule = choice![
     ],
 ];
 
-pub static ARROW_FUNCTION: Rule = choice![
+static ARROW_FUNCTION: Rule = choice![
     node![ARROW_FUNCTION_EXPRESSION;
         token!("async"), check!(SameLine), read!(ArrowParameters into Params), check!(SameLine),
         token!("=>"), read!(ConciseBody under Async into Body), flag!(Async),
@@ -92,12 +97,12 @@ pub static ARROW_FUNCTION: Rule = choice![
     ],
 ];
 
-pub static ARROW_PARAMETERS: Rule = choice![
+static ARROW_PARAMETERS: Rule = choice![
     plain![leaf!(Name as IDENTIFIER)],
     plain![token!("("), inside!(FormalParameters), token!(")")],
 ];
 
-pub static CONCISE_BODY: Rule = choice![
+static CONCISE_BODY: Rule = choice![
     plain![read!(FunctionBody)],
     plain![
         check!(NoBraceNext),
@@ -106,56 +111,53 @@ pub static CONCISE_BODY: Rule = choice![
     ],
 ];
 
-pub static METHOD: Rule = choice![node![FUNCTION_EXPRESSION; read!(FunctionRest under Plain)]];
+static METHOD: Rule = choice![node![FUNCTION_EXPRESSION; read!(FunctionRest under Plain)]];
 
-pub static ASYNC_METHOD: Rule = choice![
+static ASYNC_METHOD: Rule = choice![
     node![FUNCTION_EXPRESSION; read!(FunctionRest under Async), flag!(Async)],
 ];
 
-pub static GENERATOR_METHOD: Rule = choice![
+static GENERATOR_METHOD: Rule = choice![
     node![FUNCTION_EXPRESSION; read!(FunctionRest under Generator), flag!(Generator)],
 ];
 
-pub static ASYNC_GENERATOR_METHOD: Rule = choice![node![FUNCTION_EXPRESSION;
+static ASYNC_GENERATOR_METHOD: Rule = choice![node![FUNCTION_EXPRESSION;
         read!(FunctionRest under AsyncGenerator), flag!(Async), flag!(Generator),
     ],];
 
-pub static YIELD_EXPRESSION: Rule = choice![node![YIELD_EXPRESSION;
+static YIELD_EXPRESSION: Rule = choice![node![YIELD_EXPRESSION;
         check!(YieldIsOperator), token!("yield"), read!(YieldOperand into Argument),
     ],];
 
-pub static YIELD_OPERAND: Rule = option![where SameLine;
+static YIELD_OPERAND: Rule = option![where SameLine;
     plain![token!("*"), flag!(Delegate), deeper!(AssignmentExpression)],
     plain![deeper!(AssignmentExpression)],
 ];
 
-pub static CLASS_DECLARATION: Rule = choice![node![CLASS_DECLARATION;
+static CLASS_DECLARATION: Rule = choice![node![CLASS_DECLARATION;
         token!("class"), read!(BindingIdentifier into Id), read!(ClassHeritage into SuperClass),
         read!(ClassBody into Body),
     ],];
 
-pub static DEFAULT_CLASS: Rule = choice![node![CLASS_DECLARATION;
+static DEFAULT_CLASS: Rule = choice![node![CLASS_DECLARATION;
         token!("class"), read!(OptionalName into Id), read!(ClassHeritage into SuperClass),
         read!(ClassBody into Body),
     ],];
 
-pub static CLASS_EXPRESSION: Rule = choice![node![CLASS_EXPRESSION;
+static CLASS_EXPRESSION: Rule = choice![node![CLASS_EXPRESSION;
         token!("class"), read!(OptionalName into Id), read!(ClassHeritage into SuperClass),
         read!(ClassBody into Body),
     ],];
 
-pub static CLASS_HERITAGE: Rule = option![plain![
-    token!("extends"),
-    deeper!(LeftHandSideExpression)
-],];
+static CLASS_HERITAGE: Rule = option![plain![token!("extends"), deeper!(LeftHandSideExpression)],];
 
-pub static CLASS_BODY: Rule = choice![
+static CLASS_BODY: Rule = choice![
     node![CLASS_BODY; token!("{"), inside!(ClassElementList into Body), token!("}")],
 ];
 
-pub static CLASS_ELEMENT_LIST: Rule = any_number![plain![read!(ClassElement)]];
+static CLASS_ELEMENT_LIST: Rule = any_number![plain![read!(ClassElement)]];
 
-pub static CLASS_ELEMENT: Rule = choice![
+static CLASS_ELEMENT: Rule = choice![
     plain![token!(";")],
     node![STATIC_BLOCK;
         token!("static"), token!("{"), deeper!(StatementList under Plain into Body), token!("}"),
@@ -175,7 +177,7 @@ pub static CLASS_ELEMENT: Rule = choice![
     becoming![read!(ClassElementName into Key), read!(ClassElementValue)],
 ];
 
-pub static CLASS_ELEMENT_VALUE: Rule = choice![
+static CLASS_ELEMENT_VALUE: Rule = choice![
     plain![
         read!(Method into Value),
         kind!(Method),
@@ -188,12 +190,12 @@ pub static CLASS_ELEMENT_VALUE: Rule = choice![
     ],
 ];
 
-pub static CONSTRUCTOR_NAME: Rule = choice![
+static CONSTRUCTOR_NAME: Rule = choice![
     plain![leaf!(Word as IDENTIFIER)],
     plain![leaf!(Text as LITERAL)],
 ];
 
-pub static PREFIXED_METHOD: Rule = choice![
+static PREFIXED_METHOD: Rule = choice![
     plain![
         words!(AccessorWord into Kind),
         read!(ClassElementName into Key),
@@ -222,7 +224,29 @@ pub static PREFIXED_METHOD: Rule = choice![
     ],
 ];
 
-pub static CLASS_ELEMENT_NAME: Rule = choice![
+static CLASS_ELEMENT_NAME: Rule = choice![
     plain![leaf!(Private as PRIVATE_IDENTIFIER)],
     plain![read!(PropertyName)],
 ];
+
+/// The rule of the symbol, of this chapter or a later one.
+#[tactic(auto, unfolding(crate::specs::Functions::function_rule))]
+pub fn function_rule(symbol: Symbol) -> Rule
+    ensures { seen result ≡ function_rule symbol }
+{
+    rules![symbol else module_rule(symbol);
+        FormalParameters is FORMAL_PARAMETERS, FunctionRest is FUNCTION_REST,
+        FunctionBody is FUNCTION_BODY, FunctionDeclaration is FUNCTION_DECLARATION,
+        DefaultFunction is DEFAULT_FUNCTION, FunctionExpression is FUNCTION_EXPRESSION,
+        ArrowFunction is ARROW_FUNCTION, ArrowParameters is ARROW_PARAMETERS,
+        ConciseBody is CONCISE_BODY, Method is METHOD, AsyncMethod is ASYNC_METHOD,
+        GeneratorMethod is GENERATOR_METHOD, AsyncGeneratorMethod is ASYNC_GENERATOR_METHOD,
+        YieldExpression is YIELD_EXPRESSION, YieldOperand is YIELD_OPERAND,
+        ClassDeclaration is CLASS_DECLARATION, DefaultClass is DEFAULT_CLASS,
+        ClassExpression is CLASS_EXPRESSION, ClassHeritage is CLASS_HERITAGE,
+        ClassBody is CLASS_BODY, ClassElementList is CLASS_ELEMENT_LIST,
+        ClassElement is CLASS_ELEMENT, ClassElementValue is CLASS_ELEMENT_VALUE,
+        ConstructorName is CONSTRUCTOR_NAME, PrefixedMethod is PREFIXED_METHOD,
+        ClassElementName is CLASS_ELEMENT_NAME,
+    ]
+}

@@ -1,5 +1,6 @@
 //! Laws of the definitions: functions that do nothing, whose contracts are the laws.
 ghost use Rattle.es_grammar.specs.Reading.{ReadsOnce};
+ghost use Rattle.es_grammar.specs.TerminalSets.{OneCode};
 ghost use Rattle.es_grammar.specs.Trees.{AnswersOnce};
 ghost use Rattle.es_grammar.specs.Within.{AnswersLie, EndsLie, NodesLie};
 
@@ -11,6 +12,11 @@ pub fn one_reading()
 /// A text is one program at most.
 pub fn one_answer()
     ensures { AnswersOnce }
+{}
+
+/// No two terminals have the same code, so that a set of codes is a set of terminals.
+pub fn one_code()
+    ensures { OneCode }
 {}
 
 /// What a symbol reads lies in its text: its tokens one behind the other, and the spans of its nodes. So

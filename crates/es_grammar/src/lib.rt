@@ -21,7 +21,7 @@ mod tests;
 pub use context::{Change, Context, Spot};
 pub use draft::{Child, Draft, Outcome, Setting};
 pub use first::can_begin;
-pub use law::{nodes_lie, one_answer, one_reading};
+pub use law::{nodes_lie, one_answer, one_code, one_reading};
 pub use part::{
     Alternative, Condition, Field, GREATEST_HEIGHT, MemberKind, Part, Product, ROOM, Rule,
     Terminal, Turns,

@@ -246,6 +246,16 @@ macro_rules! behind {
     };
 }
 
+/// The rule of a symbol, by the symbols of a chapter and their rules.
+macro_rules! rules {
+    ($symbol:ident else $other:expr; $($name:ident is $rule:ident),* $(,)?) => {
+        match $symbol {
+            $(Symbol::$name => $rule,)*
+            _ => $other,
+        }
+    };
+}
+
 pub(crate) use any_number;
 pub(crate) use becomes;
 pub(crate) use becoming;
@@ -262,6 +272,7 @@ pub(crate) use node;
 pub(crate) use option;
 pub(crate) use plain;
 pub(crate) use read;
+pub(crate) use rules;
 pub(crate) use terminal;
 pub(crate) use token;
 pub(crate) use turns;
