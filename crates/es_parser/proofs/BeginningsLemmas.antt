@@ -1,13 +1,13 @@
 -- The set of the terminals that read the next token, as far as it is found.
-use Rattle.std.proofs.Common.{◌≡◌, ℕ, ◌<◌, ◌≤◌, ◌+◌, ◌^◌, ◌*◌, ◌%◌, ◌-◌, List, [], ◌∷◌, length, Bool, true, false, Option, Some, None, ap, arith, refl, sym, subst, ◌∙◌, zero, suc, ltb-true, ltb-false, eqb-true, eq-eqb, ◌⊎◌, inl, inr}
-use Rattle.std.specs.Prelude.{◌↔◌, IsSome, IsTrue, is_some, ◌==◌, nat_lt, if◌then◌else◌, slice_get, ◌≢◌}
+use Rattle.std.proofs.Common.{◌≡◌, ℕ, ◌<◌, ◌≤◌, ◌+◌, ◌^◌, ◌*◌, ◌%◌, List, [], ◌∷◌, Bool, true, false, Option, Some, None, ap, arith, refl, sym, subst, ◌∙◌, ltb-true, ltb-false, eqb-true, eq-eqb, ◌⊎◌, inl, inr}
+use Rattle.std.specs.Prelude.{◌↔◌, IsSome, IsTrue, is_some, ◌==◌, nat_lt, if◌then◌else◌, ◌≢◌}
 use Rattle.std.specs.List.{list_any}
 use Rattle.std.specs.Option.{option_map_or}
 use Rattle.std.specs.Str.{bytes_eq}
 use Rattle.std.specs.Int.{bit_at, w128}
 use Rattle.std.specs.Int.RustNames.{bit_or}
 use Rattle.std.proofs.lemmas.Option.{slice_get_past}
-use Rattle.std.proofs.lemmas.Nat.Bits.{bit_at_set_same, bit_at_set_other, bit_at-zero}
+use Rattle.std.proofs.lemmas.Nat.Bits.{bit_at_set_other, bit_at-zero}
 use Rattle.es_text.specs.declared.token.Token.{Token}
 use Rattle.es_text.specs.declared.token.TokenKind.{TokenKind}
 use Rattle.es_text.specs.Tokens.{token}
@@ -18,56 +18,11 @@ use Rattle.es_grammar.specs.declared.symbol.Symbol.{Symbol}
 use Rattle.es_grammar.specs.declared.context.Spot.{Spot}
 use Rattle.es_grammar.specs.Firsts.{BeginsTurn, CanBegin, next_begins, turn_rows}
 use Rattle.es_grammar.specs.Grammar.{rule_of}
-use Rattle.es_grammar.specs.TerminalSets.{HasTerminal, code_of}
+use Rattle.es_grammar.specs.TerminalSets.{HasTerminal, OneCode, code_of}
 use Rattle.es_grammar.specs.Terminals.{mode_of, read_by, reads_kind, spellings, terminal_at, text_of, texts_of}
-use Rattle.es_parser.specs.Found.{Found, fixed_words}
+use Rattle.es_parser.specs.Found.{Found}
 use Rattle.es_parser.specs.Kept.{HasTerminals, goes_on, plain_at}
 use Rattle.es_parser.specs.Begins.{BeginsNext}
-
--- the terminal of a code
-
-terminals : List Terminal
-terminals =
-    t.Word ∷ t.Name ∷ t.Private ∷ t.Number ∷ t.Text ∷ t.RegExp ∷ t.Full ∷ t.Head ∷ t.Middle ∷ t.Tail ∷ t.AccessorWord ∷ t.DeclarationWord ∷ t.AssignmentOperator ∷ t.EqualityOperator ∷ t.RelationalOperator ∷ t.ShiftOperator ∷ t.AdditiveOperator ∷ t.MultiplicativeOperator ∷ t.UnaryOperator ∷ t.UpdateOperator ∷ []
-
-decoded_by : Option Terminal → ℕ → Terminal
-decoded_by None n = t.Spelled (n - 20)
-decoded_by (Some terminal) n = terminal
-
-decoded : ℕ → Terminal
-decoded n = decoded_by (slice_get terminals n) n
-
-spelled_back : (o : Option Terminal) (code : ℕ) → o ≡ None → decoded_by o (20 + code) ≡ t.Spelled code
-unfolding decoded_by
-spelled_back None code e = ap t.Spelled (omega arith)
-spelled_back (Some terminal) code e = absurd (cc)
-
-decoded_code : (terminal : Terminal) → decoded (code_of terminal) ≡ terminal
-unfolding code_of decoded decoded_by terminals
-decoded_code t.Word = refl
-decoded_code t.Name = refl
-decoded_code t.Private = refl
-decoded_code t.Number = refl
-decoded_code t.Text = refl
-decoded_code t.RegExp = refl
-decoded_code t.Full = refl
-decoded_code t.Head = refl
-decoded_code t.Middle = refl
-decoded_code t.Tail = refl
-decoded_code t.AccessorWord = refl
-decoded_code t.DeclarationWord = refl
-decoded_code t.AssignmentOperator = refl
-decoded_code t.EqualityOperator = refl
-decoded_code t.RelationalOperator = refl
-decoded_code t.ShiftOperator = refl
-decoded_code t.AdditiveOperator = refl
-decoded_code t.MultiplicativeOperator = refl
-decoded_code t.UnaryOperator = refl
-decoded_code t.UpdateOperator = refl
-decoded_code (t.Spelled code) = spelled_back (slice_get terminals (20 + code)) code (slice_get_past terminals (20 + code) (omega arith))
-
-pub same_code : (terminal other : Terminal) → code_of terminal ≡ code_of other → terminal ≡ other
-same_code terminal other h = sym (decoded_code terminal) ∙ ap decoded h ∙ decoded_code other
 
 pub ne_from : (a b : ℕ) → (a == b) ≡ false → a ≢ b
 ne_from a b e same = let known : (a == b) ≡ true = eq-eqb a b same in cc
@@ -87,7 +42,7 @@ module _ (text : List ℕ) (context : Context) (at : ℕ) where
   this_one set new terminal false none so put left =
       (λ h. absurd (omega (arith, h, none, ap (λ n. bit_at n (code_of terminal)) (left refl))), λ h. absurd (cc))
 
-  module _ (set new code : ℕ) (terminal : Terminal) (found : Bool) (before : Found text context at set code) (is_code : code_of terminal ≡ code)
+  module _ (same_code : OneCode) (set new code : ℕ) (terminal : Terminal) (found : Bool) (before : Found text context at set code) (is_code : code_of terminal ≡ code)
       (so : found ≡ is_some (plain_at text context terminal at)) (others : (k : ℕ) → k ≢ code → bit_at new k ≡ bit_at set k)
       (put : found ≡ true → bit_at new code ≡ 1) (left : found ≡ false → new ≡ set) where
     here : Same new terminal
@@ -187,9 +142,9 @@ this_bit code k low h = by_bit (k == code) refl
         let none : bit_at (bit_or 0 (1 * 2 ^ code % 2 ^ 128)) k ≡ bit_at 0 k = bit_at_set_other w128 0 code low k (ne_from k code e) in
         absurd (omega (arith, h, none, bit_at-zero k))
 
-pub only_this : (symbol : Symbol) (terminal other : Terminal) (code : ℕ) → code ≡ code_of terminal → code_of terminal < 128 →
+pub only_this : OneCode → (symbol : Symbol) (terminal other : Terminal) (code : ℕ) → code ≡ code_of terminal → code_of terminal < 128 →
     HasTerminal (1 * 2 ^ code % 2 ^ 128) other → BeginsTurn other symbol → BeginsTurn terminal symbol
-only_this symbol terminal other code e low has begins =
+only_this same_code symbol terminal other code e low has begins =
     let same : code_of other ≡ code = this_bit code (code_of other) (omega (arith, e, low)) has in
     subst (λ (one : Terminal). BeginsTurn one symbol) (same_code other terminal (same ∙ e)) begins
 

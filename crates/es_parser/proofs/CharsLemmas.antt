@@ -1,5 +1,5 @@
 -- The characters of a text without its first or its last one.
-use Rattle.std.proofs.Common.{◌≡◌, ◌∙◌, ap, sym, ℕ, true, false, ◌-◌, ◌≤◌, ◌==◌, List, [], ◌∷◌, ◌++◌, length, take, drop, arith, refl, IsUtf8, length-drop}
+use Rattle.std.proofs.Common.{◌≡◌, ◌∙◌, ap, sym, ℕ, true, false, ◌-◌, ◌==◌, List, [], ◌∷◌, ◌++◌, length, take, drop, arith, refl, IsUtf8, length-drop}
 use Rattle.std.specs.Prelude.{codes, encode_utf8, encode_utf8_all, IfNone, Option, None, Some}
 use Rattle.std.specs.Str.{bytes_eq, chars}
 use Rattle.std.proofs.lemmas.Bool.Decides.{same_from_decides}

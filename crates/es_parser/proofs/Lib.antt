@@ -4,9 +4,12 @@ mod ConditionsLemmas
 mod DirectivesLemmas
 mod FixedLemmas
 mod FlagsLemmas
+mod FrontsLemmas
 mod HeightLemmas
 mod ParsingLemmas
 mod PlacesLemmas
 mod ProgramLemmas
 mod ReadingLemmas
+mod SetsLemmas
 mod TerminalsLemmas
+mod TextSetsLemmas

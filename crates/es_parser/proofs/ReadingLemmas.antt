@@ -1,9 +1,9 @@
 -- The steps of a reading, in the form in which the interpreter takes them.
 use Rattle.std.proofs.Common.{◌≡◌, ◌<◌, ◌≤◌, ℕ, zero, suc, ◌+◌, ltb-true, leb-false, Bor, List, [], ◌∷◌, length, map, get_or, drop, drop-cons, add-one, Bool, true, false, Option, Some, None, Result, Ok, Err, IfOk, IsTrue, refl, sym, ◌∙◌, ap, subst, arith}
 use Rattle.std.specs.Prelude.{◌&&◌, nat_le, nat_lt, if◌then◌else◌}
-use Rattle.std.specs.Option.{option_map_or}
+use Rattle.std.specs.Option.{option_map_or, option_or}
 use Rattle.std.specs.List.{list_all}
-use Rattle.std.specs.Str.{IsCharBoundary}
+use Rattle.std.specs.Str.{IsCharBoundary, chars}
 use Rattle.std.proofs.lemmas.List.{drop_all}
 use Rattle.es_text.specs.declared.token.Token.{Token}
 use Rattle.es_tree.specs.Shapes.{height}
@@ -24,19 +24,22 @@ use Rattle.es_grammar.specs.declared.part.Rule.TheVariants as rule
 use Rattle.es_grammar.specs.declared.part.TheConstants.{GREATEST_HEIGHT}
 use Rattle.es_grammar.specs.declared.part.Turns.{Turns as KeptTurns}
 use Rattle.es_grammar.specs.declared.symbol.Symbol.{Symbol}
-use Rattle.es_grammar.specs.Contexts.{changed, in_change, moved}
-use Rattle.es_grammar.specs.Drafts.{empty, joined, shape_of, span_of}
+use Rattle.es_grammar.specs.Contexts.{changed, moved}
+use Rattle.es_grammar.specs.declared.part.Terminal.{Terminal}
+use Rattle.es_grammar.specs.Terminals.{terminal_at, text_of}
+use Rattle.es_grammar.specs.Drafts.{empty, joined, shape_of, span_of, words}
 use Rattle.es_grammar.specs.Firsts.{CanBegin, turn_rows}
 use Rattle.es_grammar.specs.Forms.{Row, Turns, Form, Choice, More, Commas, Behind}
 use Rattle.es_grammar.specs.Grammar.{rule_of}
-use Rattle.es_grammar.specs.Parts.{after, all_hold, finish, is_last_turn, is_not, is_read, made, plainly, with_token}
+use Rattle.es_grammar.specs.Parts.{if_token, leaf_child, with_child, with_setting, after, all_hold, finish, is_last_turn, is_not, is_read, made, placed, plainly, with_token}
 use Rattle.es_grammar.specs.Ranks.{form_below, is_below, rank_of, rows_below}
 use Rattle.es_grammar.specs.Rules.{row, seen, turns}
-use Rattle.es_grammar.specs.Reading.{Reads, ReadsTurns, ReadsCommas, ReadsChoice, ReadsParts, ReadsPart, left, over, stuck, deep_turn, last_turn, next_turn, no_more, broken, deep_item, last_item, next_item, no_row, this_row, next_row, done, stop, go_on, plain, symbol, deeper, too_deep, comma_at, grown, taken, by_choice, by_turns, by_commas, behind, headless}
+use Rattle.es_grammar.specs.Reading.{Reads, ReadsTurns, ReadsCommas, ReadsChoice, ReadsParts, ReadsPart, left, over, stuck, deep_turn, last_turn, next_turn, no_more, broken, deep_item, last_item, next_item, no_row, this_row, next_row, done, stop, go_on, plain, symbol, deeper, too_deep, comma_at, taken, by_choice, by_turns, by_commas, behind, headless}
+use Rattle.es_parser.proofs.PlacesLemmas.{unplaced}
 use Rattle.es_parser.specs.declared.reached.Reached.{Reached}
 use Rattle.es_parser.specs.declared.reached.Reached.TheVariants.{Nothing, TooDeep, At}
-use Rattle.es_parser.specs.Ends.{EndsFrom, EndsIn}
-use Rattle.es_parser.specs.Turns.{ReadsBehind, head_of, joined_to, outcome_of, turn_of}
+use Rattle.es_parser.specs.Ends.{EndsFrom, EndsIn, terminal_of}
+use Rattle.es_parser.specs.Turns.{IsOver, ReadsBehind, head_of, joined_to, outcome_of, turn_of}
 
 and_left : (a b : Bool) → IsTrue (a && b) → IsTrue a
 and_left true b h = refl
@@ -51,7 +54,7 @@ pub if_ok : {A E : Type 0} (P Q : A → Type 0) (r : Result A E) → ((x : A) �
 if_ok P Q (Ok x) f p = f x p
 if_ok P Q (Err e) f p = tt
 
-drop_at : {A : Type 0} (d : A) (xs : List A) (i : ℕ) → i < length xs → drop i xs ≡ get_or xs i d ∷ drop (i + 1) xs
+pub drop_at : {A : Type 0} (d : A) (xs : List A) (i : ℕ) → i < length xs → drop i xs ≡ get_or xs i d ∷ drop (i + 1) xs
 drop_at d xs i h = drop-cons xs i d h ∙ ap (λ n. get_or xs i d ∷ drop n xs) (sym (add-one i))
 
 -- every part of every row is below
@@ -498,3 +501,70 @@ refused {text} {symbol} {spot} draft q reads none = subst (λ q. Reads text symb
 pub symbol_below : {p : Part} {s : Symbol} {change : Change} {field : Option Field} (rank : ℕ) → p ≡ part.Symbol s change field → IsTrue (is_below rank p) → rank_of s < rank
 unfolding is_below
 symbol_below {p} {s} {change} {field} rank is below = ltb-true (rank_of s) rank (subst (λ p. IsTrue (is_below rank p)) is below)
+
+-- a part that reads a token, and another one is next
+pub other_token : (text : List ℕ) (spot : Spot) (draft : Draft) (p : Part) (terminal : Terminal) → Some terminal ≡ terminal_of p →
+    terminal_at text spot.context terminal spot.at ≡ None → ReadsPart text p spot draft Not
+unfolding plainly
+other_token text spot draft (part.Token own) terminal is none =
+    let same : terminal ≡ own = (cc) in
+    plain (ap (λ found. Some (if_token (λ found. Read (with_token draft found) found.span.end) found)) (subst (λ t. terminal_at text spot.context t spot.at ≡ None) same none))
+other_token text spot draft (part.Words own field) terminal is none =
+    let same : terminal ≡ own = (cc) in
+    plain (ap (λ found. Some (if_token (λ found. Read (with_setting (with_token draft found) (words field (chars (text_of text found)))) found.span.end) found))
+    (subst (λ t. terminal_at text spot.context t spot.at ≡ None) same none))
+other_token text spot draft (part.Leaf own kind field) terminal is none =
+    let same : terminal ≡ own = (cc) in
+    plain (ap (λ found. Some (if_token (λ found. Read (with_child (with_token draft found) (leaf_child text kind field found)) found.span.end) found))
+    (subst (λ t. terminal_at text spot.context t spot.at ≡ None) same none))
+other_token text spot draft (part.Twin own kind field) terminal is none = absurd (cc)
+other_token text spot draft (part.Symbol s change field) terminal is none = absurd (cc)
+other_token text spot draft (part.Deeper s change field) terminal is none = absurd (cc)
+other_token text spot draft (part.Check condition) terminal is none = absurd (cc)
+other_token text spot draft part.Hole terminal is none = absurd (cc)
+other_token text spot draft (part.Flag field) terminal is none = absurd (cc)
+other_token text spot draft (part.Kind member) terminal is none = absurd (cc)
+other_token text spot draft (part.Becomes kind) terminal is none = absurd (cc)
+other_token text spot draft part.Directives terminal is none = absurd (cc)
+
+over_or_left : (text : List ℕ) (spot : Spot) (ts : Turns) (draft : Draft) (so : Bool) → all_hold text spot draft ts.conditions ≡ so →
+    ReadsChoice text ts.rows spot (taken ts draft) Not → (CanBegin text spot ts.rows → ⊥) → ReadsTurns text ts spot draft (Read draft spot.at)
+over_or_left text spot ts draft false holds reads never = left holds
+over_or_left text spot ts draft true holds reads never = over holds reads never
+
+-- an option or a repetition of which no row reads
+pub turns_over_at_once : {text : List ℕ} {at : ℕ} {draft : Draft} (spot : Spot) (taking : Bool) (more : KeptTurns) →
+    IsOver text (map row more.rows.now) (moved spot at) → ReadsTurns text (turns taking more) (moved spot at) draft (Read draft at)
+turns_over_at_once {text} {at} {draft} spot taking more none =
+    over_or_left text (moved spot at) (turns taking more) draft (all_hold text (moved spot at) draft more.conditions.now) refl
+    (none.reads (taken (turns taking more) draft)) none.never
+
+-- a row that gives on what its parts gave
+or_none : {A : Type 0} (x : Option A) → option_or x None ≡ x
+or_none None = refl
+or_none (Some kind) = refl
+
+joined_empty : (draft : Draft) → joined empty draft ≡ draft
+joined_empty draft = ap (λ kind. record draft { becomes = kind }) (or_none draft.becomes)
+
+parts_only : (q : Reached) (draft : Draft) → outcome_of q draft ≡ finish product.Parts empty (outcome_of q draft)
+unfolding finish
+parts_only Nothing draft = refl
+parts_only TooDeep draft = refl
+parts_only (At end) draft = ap (λ d. Read d end) (sym (joined_empty draft))
+
+pub given_on : (makes : Product) (q : Reached) (draft : Draft) → makes ≡ product.Parts → outcome_of q draft ≡ finish makes empty (outcome_of q draft)
+given_on makes q draft is = subst (λ m. outcome_of q draft ≡ finish m empty (outcome_of q draft)) (sym is) (parts_only q draft)
+
+-- what a symbol gives, where nothing was read before and no field is given
+after_empty : (q : Outcome) → q ≡ after empty None q
+unfolding after
+after_empty Not = refl
+after_empty Deep = refl
+after_empty (Read more end) =
+    ap (λ draft. Read draft end)
+    (sym (joined_empty (record more { children = map (placed None) more.children }) ∙ ap (λ cs. record more { children = cs }) (sym (unplaced more.children))))
+
+pub after_bare : {draft : Draft} {field : Option Field} (q : Outcome) → field ≡ None → draft ≡ empty → q ≡ after draft field q
+after_bare {draft} {field} q none bare =
+    subst (λ before. q ≡ after before field q) (sym bare) (subst (λ own. q ≡ after empty own q) (sym none) (after_empty q))

@@ -1,5 +1,5 @@
 -- What is known of a token that a terminal reads.
-use Rattle.std.proofs.Common.{◌≡◌, refl, ℕ, ◌<◌, ◌-◌, List, [], ◌∷◌, length, take, drop, Bool, true, false, Option, Some, None, ap, arith, rules, sym, zero, suc, length-take, ◌≤◌}
+use Rattle.std.proofs.Common.{◌≡◌, refl, ℕ, ◌<◌, ◌-◌, List, [], ◌∷◌, length, drop, Bool, true, false, Option, Some, None, arith, length-take}
 use Rattle.std.specs.Prelude.{◌||◌, if◌then◌else◌, slice_range}
 use Rattle.std.specs.Str.{bytes_eq}
 use Rattle.es_text.specs.declared.token.Token.{Token}

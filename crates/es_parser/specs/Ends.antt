@@ -1,5 +1,5 @@
 -- What the interpreter of the grammar needs to know of outcomes and parts.
-use Rattle.std.specs.Prelude.{ℕ, ◌≤◌, List, Bool, true, false}
+use Rattle.std.specs.Prelude.{ℕ, ◌≤◌, List, Bool, true, false, Option, Some, None}
 use Rattle.std.specs.Str.{IsCharBoundary}
 use Rattle.es_grammar.specs.declared.draft.Outcome.{Outcome}
 use Rattle.es_grammar.specs.declared.draft.Outcome.TheVariants.{Not, Deep, Read}
@@ -7,6 +7,7 @@ use Rattle.es_grammar.specs.declared.part.Condition.{Condition}
 use Rattle.es_grammar.specs.declared.part.Condition.TheVariants as condition
 use Rattle.es_grammar.specs.declared.part.Part.{Part}
 use Rattle.es_grammar.specs.declared.part.Part.TheVariants as part
+use Rattle.es_grammar.specs.declared.part.Terminal.{Terminal}
 
 -- what was read ends at a character of the text, or at its end
 abbrev pub EndsIn : List ℕ → Outcome → Type 0
@@ -25,6 +26,13 @@ abbrev pub is_plain : Part → Bool
 is_plain (part.Symbol symbol change field) = false
 is_plain (part.Deeper symbol change field) = false
 is_plain other = true
+
+-- the terminal of the token that the part reads
+abbrev pub terminal_of : Part → Option Terminal
+terminal_of (part.Token terminal) = Some terminal
+terminal_of (part.Words terminal field) = Some terminal
+terminal_of (part.Leaf terminal kind field) = Some terminal
+terminal_of other = None
 
 -- the part only notes something
 abbrev pub is_note : Part → Bool

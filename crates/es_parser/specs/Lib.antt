@@ -2,7 +2,9 @@ pub mod Begins
 pub mod Ends
 pub mod Flags
 pub mod Found
+pub mod Fronts
 pub mod Kept
 pub mod Parsing
 pub mod Programs
+pub mod TextSets
 pub mod Turns

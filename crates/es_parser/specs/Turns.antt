@@ -8,10 +8,11 @@ use Rattle.es_grammar.specs.declared.part.Field.{Field}
 use Rattle.es_grammar.specs.declared.part.Product.{Product}
 use Rattle.es_grammar.specs.declared.symbol.Symbol.{Symbol}
 use Rattle.es_grammar.specs.Drafts.{empty, joined}
-use Rattle.es_grammar.specs.Forms.{Turns, Form, Choice, More, Commas, Behind}
+use Rattle.es_grammar.specs.Firsts.{CanBegin}
+use Rattle.es_grammar.specs.Forms.{Row, Turns, Form, Choice, More, Commas, Behind}
 use Rattle.es_grammar.specs.Grammar.{rule_of}
 use Rattle.es_grammar.specs.Parts.{after, finish}
-use Rattle.es_grammar.specs.Reading.{Reads}
+use Rattle.es_grammar.specs.Reading.{Reads, ReadsChoice}
 use Rattle.es_parser.specs.declared.reached.Reached.{Reached}
 use Rattle.es_parser.specs.declared.reached.Reached.TheVariants.{Nothing, TooDeep, At}
 
@@ -32,6 +33,11 @@ joined_to draft (Read turn end) = Read (joined draft turn) end
 abbrev pub turn_of : Bool → Draft → Product → Outcome → Outcome
 turn_of true draft makes parts = finish makes draft parts
 turn_of false draft makes parts = joined_to draft (finish makes empty parts)
+
+-- none of the rows reads, and the next token can begin none
+pub record IsOver (text : List ℕ) (rows : List Row) (spot : Spot) : Type 0 where
+  pub reads : (seed : Draft) → ReadsChoice text rows spot seed Not
+  pub never : CanBegin text spot rows → ⊥
 
 -- the symbol at the head of a rule, with turns behind it
 abbrev pub head_of : Form → Option Symbol

@@ -1,5 +1,6 @@
 //! What was read and isn't yet in a node.
-ghost use Rattle.std.specs.Prelude.{◌≡◌, ◌++◌, ◌∷◌, [], IfOk, OnOk, map, option_copied};
+ghost use Rattle.std.specs.Prelude.{◌≡◌, ◌++◌, ◌∷◌, [], None, Some, IfOk, OnOk, length, map, option_copied};
+ghost use Rattle.std.specs.Bool.{OnTrue};
 ghost use Rattle.es_grammar.specs.Drafts.{empty, joined};
 ghost use Rattle.es_grammar.specs.Parts.{after, placed, with_child, with_setting, with_token};
 
@@ -19,13 +20,27 @@ pub fn nothing(alloc: Global) -> Draft
     }
 }
 
+/// Whether nothing was read, and no field is given: then what a symbol reads is what it gives.
+pub fn is_bare(field: Option<Field>, draft: &Draft) -> bool
+    ensures { OnTrue result ((field ≡ None) × (draft.now ≡ empty)) }
+{
+    field.is_none()
+        && draft.children.len() == 0
+        && draft.settings.len() == 0
+        && draft.tokens.len() == 0
+        && draft.becomes.is_none()
+}
+
 /// The items of the second list behind those of the first. Takes time in the length of the second, or
-/// constant time where the first is empty.
+/// constant time where one of them is empty.
 fn append<T: Drop>(first: Items<T>, more: Items<T>) -> Result<Items<T>, NoMemory>
     ensures { IfOk result (λ all. all ≡ first ++ more) }
 {
     if first.len() == 0 {
         return Ok(more);
+    }
+    if more.len() == 0 {
+        return Ok(first);
     }
     let mut all = first;
     for item in more.into_vec() {
@@ -78,8 +93,27 @@ fn place(
     let Some(field) = field else {
         return Ok(children);
     };
+    if children.len() == 1 {
+        return place_one(field, children.into_vec());
+    }
     let mut all = Vec::with_capacity(alloc, children.len())?;
     for child in children.into_vec() {
+        let Child { field: own, shape } = child;
+        all.push(Child {
+            field: own.or(Some(field)),
+            shape,
+        })?;
+    }
+    Ok(Items::from_vec(all))
+}
+
+/// The same for one child, whose memory is kept.
+fn place_one(field: Field, children: Vec<Child>) -> Result<Items<Child>, NoMemory>
+    requires { length children.items ≡ 1 }
+    ensures { IfOk result (λ all. all ≡ map (placed (Some field)) children.items) }
+{
+    let mut all = children;
+    if let Some(child) = all.pop() {
         let Child { field: own, shape } = child;
         all.push(Child {
             field: own.or(Some(field)),

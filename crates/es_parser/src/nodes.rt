@@ -15,72 +15,36 @@ use es_text::{Items, NoMemory, Span, Token};
 use es_tree::{AttributeValue, Node, heights};
 use std::alloc::Global;
 
+/// The name that stands behind the field among these.
+macro_rules! names {
+    ($field:ident; $($variant:ident $name:literal),*) => {
+        match $field {
+            $(Field::$variant => $name,)*
+        }
+    };
+}
+
 /// The name of the field.
 #[tactic(auto, unfolding(es_grammar::specs::Drafts::name_of))]
 pub fn name_of(field: Field) -> &'static str
     ensures { result.now ≡ name_of field }
 {
-    match field {
-        Field::Alternate => "alternate",
-        Field::Argument => "argument",
-        Field::Arguments => "arguments",
-        Field::Async => "async",
-        Field::Await => "await",
-        Field::Bigint => "bigint",
-        Field::Block => "block",
-        Field::Body => "body",
-        Field::Callee => "callee",
-        Field::Cases => "cases",
-        Field::Computed => "computed",
-        Field::Consequent => "consequent",
-        Field::Declaration => "declaration",
-        Field::Declarations => "declarations",
-        Field::Delegate => "delegate",
-        Field::Directive => "directive",
-        Field::Discriminant => "discriminant",
-        Field::Elements => "elements",
-        Field::Exported => "exported",
-        Field::Expression => "expression",
-        Field::Expressions => "expressions",
-        Field::Finalizer => "finalizer",
-        Field::Generator => "generator",
-        Field::Handler => "handler",
-        Field::Id => "id",
-        Field::Imported => "imported",
-        Field::Init => "init",
-        Field::Key => "key",
-        Field::Kind => "kind",
-        Field::Label => "label",
-        Field::Left => "left",
-        Field::Local => "local",
-        Field::Meta => "meta",
-        Field::Method => "method",
-        Field::Name => "name",
-        Field::Object => "object",
-        Field::Operator => "operator",
-        Field::Optional => "optional",
-        Field::Param => "param",
-        Field::Params => "params",
-        Field::Prefix => "prefix",
-        Field::Properties => "properties",
-        Field::Property => "property",
-        Field::Quasi => "quasi",
-        Field::Quasis => "quasis",
-        Field::Raw => "raw",
-        Field::Regex => "regex",
-        Field::Right => "right",
-        Field::Shorthand => "shorthand",
-        Field::Source => "source",
-        Field::SourceType => "sourceType",
-        Field::Specifiers => "specifiers",
-        Field::Static => "static",
-        Field::SuperClass => "superClass",
-        Field::Tag => "tag",
-        Field::Tail => "tail",
-        Field::Test => "test",
-        Field::Update => "update",
-        Field::Value => "value",
-    }
+    names![field;
+        Alternate "alternate", Argument "argument", Arguments "arguments", Async "async",
+        Await "await", Bigint "bigint", Block "block", Body "body", Callee "callee", Cases "cases",
+        Computed "computed", Consequent "consequent", Declaration "declaration",
+        Declarations "declarations", Delegate "delegate", Directive "directive",
+        Discriminant "discriminant", Elements "elements", Exported "exported",
+        Expression "expression", Expressions "expressions", Finalizer "finalizer",
+        Generator "generator", Handler "handler", Id "id", Imported "imported", Init "init",
+        Key "key", Kind "kind", Label "label", Left "left", Local "local", Meta "meta",
+        Method "method", Name "name", Object "object", Operator "operator", Optional "optional",
+        Param "param", Params "params", Prefix "prefix", Properties "properties",
+        Property "property", Quasi "quasi", Quasis "quasis", Raw "raw", Regex "regex",
+        Right "right", Shorthand "shorthand", Source "source", SourceType "sourceType",
+        Specifiers "specifiers", Static "static", SuperClass "superClass", Tag "tag", Tail "tail",
+        Test "test", Update "update", Value "value"
+    ]
 }
 
 /// The position of the field among those of the kind; children without a field stand in the first.

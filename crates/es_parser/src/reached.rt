@@ -2,18 +2,22 @@
 //! outcome, which is large: so its calls take little of the stack.
 ghost use Rattle.std.specs.Prelude.{◌≡◌, Ok, IfOk, IsTrue};
 ghost use Rattle.es_parser.specs.declared.reached.Reached.{Reached as ReachedOf};
+ghost use Rattle.std.specs.Bool.{OnTrue};
 ghost use Rattle.std.specs.Str.{IsCharBoundary};
+ghost use Rattle.es_grammar.specs.declared.draft.Draft.{Draft as DraftOf};
+ghost use Rattle.es_grammar.specs.declared.draft.Outcome.TheVariants.{Not};
 ghost use Rattle.es_grammar.specs.Drafts.{empty};
 ghost use Rattle.es_grammar.specs.Parts.{after, finish};
 ghost use Rattle.es_grammar.specs.Reading.{ReadsPart};
-ghost use Rattle.es_parser.specs.Ends.{EndsFrom, is_plain};
+ghost use Rattle.es_parser.specs.Ends.{EndsFrom, is_plain, terminal_of};
 ghost use Rattle.es_parser.specs.Turns.{outcome_of, turn_of};
 
 use crate::drafts::{extend, join, nothing};
 use crate::nodes::finish;
 use crate::parts::plain;
 use crate::reader::Reader;
-use es_grammar::{Draft, Field, Outcome, Part, Product, Spot};
+use crate::terminals::terminal_at;
+use es_grammar::{Draft, Field, Outcome, Part, Product, Spot, Terminal};
 use es_text::{NoMemory, Steps};
 use std::alloc::Global;
 use std::mem;
@@ -70,22 +74,55 @@ pub fn clear(alloc: Global, draft: &mut Draft)
     *draft = nothing(alloc);
 }
 
-/// What a symbol gave, behind what was read before it.
+/// What a symbol gave, behind what was read before it. The second draft is used up.
 #[inline(never)]
 pub fn extended(
     alloc: Global,
     draft: &mut Draft,
     field: Option<Field>,
-    more: Draft,
+    more: &mut Draft,
     reached: Result<Reached, NoMemory>,
 ) -> Result<Reached, NoMemory>
     ensures { IfOk result (λ r. (so_far : ReachedOf) × (reached ≡ Ok so_far)
-        × (outcome_of r draft.new ≡ after draft.old field (outcome_of so_far more))) }
+        × (outcome_of r draft.new ≡ after draft.old field (outcome_of so_far more.old))) }
 {
     let reached = reached?;
     let before = mem::replace(draft, nothing(alloc));
+    let more = mem::replace(more, nothing(alloc));
     let outcome = extend(alloc, before, field, outcome_of(reached, more))?;
     Ok(settle(draft, outcome))
+}
+
+/// The terminal of the token that the part reads.
+fn terminal_of(part: Part) -> Option<Terminal>
+    ensures { result ≡ terminal_of part }
+{
+    match part {
+        Part::Token(terminal) => Some(terminal),
+        Part::Words(terminal, _) => Some(terminal),
+        Part::Leaf(terminal, _, _) => Some(terminal),
+        _ => None,
+    }
+}
+
+/// Whether the part reads a token, and another one is next. Most rows are left so, at their first part.
+fn is_other_token<L: Ledger>(
+    reader: &mut Reader,
+    spot: Spot,
+    part: Part,
+    steps: &mut Steps<L>,
+) -> bool
+    requires boundary { IsCharBoundary reader.old spot.at }
+    ensures same { reader.new ≡ reader.old }
+    ensures not { OnTrue result ((draft : DraftOf) → ReadsPart reader.old part spot draft Not) }
+{
+    match terminal_of(part) {
+        Some(terminal) => match terminal_at(reader, spot.context, terminal, spot.at, steps) {
+            Some(_) => false,
+            None => true,
+        },
+        None => false,
+    }
 }
 
 /// What a part gives that reads no symbol, behind what was read before it.
@@ -106,6 +143,9 @@ pub fn read_plain<L: Ledger>(
     ensures ends { IfOk result
         (λ r. EndsFrom reader.old spot.at (outcome_of r draft.new)) }
 {
+    if is_other_token(reader, spot, part, steps) {
+        return Ok(Reached::Nothing);
+    }
     let before = mem::replace(draft, nothing(alloc));
     let outcome = plain(alloc, reader, spot, part, before, steps)?;
     Ok(settle(draft, outcome))
@@ -122,6 +162,9 @@ pub fn finished(
     ensures { IfOk result
         (λ r. outcome_of r draft.new ≡ finish makes empty (outcome_of reached draft.old)) }
 {
+    if let Product::Parts = makes {
+        return Ok(reached);
+    }
     let parts = mem::replace(draft, nothing(alloc));
     let outcome = finish(alloc, makes, nothing(alloc), outcome_of(reached, parts))?;
     Ok(settle(draft, outcome))
@@ -146,19 +189,20 @@ fn turn_of(
     }
 }
 
-/// The same, into the draft of what was read before.
+/// The same, into the draft of what was read before. The turn's draft is used up.
 #[inline(never)]
 pub fn grown(
     alloc: Global,
     taking: bool,
     draft: &mut Draft,
-    turn: Draft,
+    turn: &mut Draft,
     found: Found,
 ) -> Result<Reached, NoMemory>
     ensures { IfOk result (λ r. outcome_of r draft.new
-        ≡ turn_of taking draft.old found.makes (outcome_of found.reached turn)) }
+        ≡ turn_of taking draft.old found.makes (outcome_of found.reached turn.old)) }
 {
     let before = mem::replace(draft, nothing(alloc));
+    let turn = mem::replace(turn, nothing(alloc));
     let outcome = outcome_of(found.reached, turn);
     let grown = turn_of(alloc, taking, before, found.makes, outcome)?;
     Ok(settle(draft, grown))

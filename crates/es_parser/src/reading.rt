@@ -1,5 +1,6 @@
 //! What a symbol reads: one interpreter of all rules.
 ghost use Rattle.std.specs.Prelude.{◌≡◌, ◌<◌, map, IfOk, IfSome, IsTrue, None};
+ghost use Rattle.std.specs.Bool.{OnTrue};
 ghost use Rattle.std.specs.List.{list_all};
 ghost use Rattle.std.specs.Str.{IsCharBoundary};
 ghost use Rattle.es_grammar.specs.declared.draft.Draft.{Draft as DraftOf};
@@ -14,13 +15,15 @@ ghost use Rattle.es_grammar.specs.Reading.{Reads, ReadsChoice, ReadsCommas};
 ghost use Rattle.es_grammar.specs.Reading.{ReadsPart, ReadsParts, ReadsTurns};
 ghost use Rattle.es_parser.specs.declared.reached.Reached.TheVariants.{Nothing};
 ghost use Rattle.es_parser.specs.Ends.{EndsFrom, EndsIn};
-ghost use Rattle.es_parser.specs.Turns.{ReadsBehind, ReadsInto, head_of, outcome_of};
+ghost use Rattle.es_parser.specs.Turns.{IsOver, ReadsBehind, ReadsInto, head_of, outcome_of};
 
-use crate::beginnings::can_begin;
+use crate::beginnings::{can_begin, can_begin_among};
 use crate::conditions::all_hold;
-use crate::drafts::{add_token, nothing};
+use crate::drafts::{add_token, is_bare, nothing};
+use crate::fronts::{are_missing, is_missing};
 use crate::reached::{Found, Reached, clear, extended, finished, grown, outcome_of, read_plain};
 use crate::reader::Reader;
+use crate::sets::terminals_at;
 use crate::terminals::comma_at;
 use es_grammar::{
     Alternative, Change, Context, Draft, Field, Outcome, Part, Product, Rule, Spot, Symbol, Turns,
@@ -117,9 +120,34 @@ fn inner_symbol<L: Ledger>(
     ensures ends { IfOk result
         (λ r. EndsFrom reader.old spot.at (outcome_of r draft.new)) }
 {
+    if is_bare(field, draft) {
+        return read_into(alloc, reader, symbol, spot, draft, steps);
+    }
+    symbol_behind(alloc, reader, symbol, spot, field, draft, steps)
+}
+
+/// The same with a draft of its own, which takes room on the stack.
+#[cycle(reading)]
+#[inline(never)]
+fn symbol_behind<L: Ledger>(
+    alloc: Global,
+    reader: &mut Reader,
+    symbol: Symbol,
+    spot: Spot,
+    field: Option<Field>,
+    draft: &mut Draft,
+    steps: &mut Steps<L>,
+) -> Result<Reached, NoMemory>
+    requires { IsCharBoundary reader.old spot.at }
+    ensures same { reader.new ≡ reader.old }
+    ensures reads { IfOk result
+        (λ r. ReadsInto reader.old symbol spot field draft.old (outcome_of r draft.new)) }
+    ensures ends { IfOk result
+        (λ r. EndsFrom reader.old spot.at (outcome_of r draft.new)) }
+{
     let mut more = nothing(alloc);
     let reached = read_into(alloc, reader, symbol, spot, &mut more, steps);
-    extended(alloc, draft, field, more, reached)
+    extended(alloc, draft, field, &mut more, reached)
 }
 
 /// The parts of a row, one after the other, behind what was read before them.
@@ -174,7 +202,11 @@ fn choice<L: Ledger>(
     ensures ends { IfOk result
         (λ found. EndsFrom reader.old spot.at (outcome_of found.reached draft.new)) }
 {
+    let set = terminals_at(reader, spot, steps);
     for each in rows {
+        if is_missing(reader, set, each.parts, spot) {
+            continue;
+        }
         clear(alloc, draft);
         match parts(alloc, reader, symbol, each.parts, spot, draft, steps)? {
             Reached::Nothing => {}
@@ -190,6 +222,27 @@ fn choice<L: Ledger>(
         makes: Product::Parts,
         reached: Reached::Nothing,
     })
+}
+
+/// Whether none of the rows reads, since none of the tokens is next with which they begin.
+#[inline(never)]
+fn is_over<L: Ledger>(
+    reader: &mut Reader,
+    symbol: Symbol,
+    rows: &[Alternative],
+    spot: Spot,
+    steps: &mut Steps<L>,
+) -> bool
+    requires rows { turn_rows (rule_of symbol) ≡ map row rows.now }
+    requires boundary { IsCharBoundary reader.old spot.at }
+    ensures same { reader.new ≡ reader.old }
+    ensures over { OnTrue result (IsOver reader.old (map row rows.now) spot) }
+{
+    let set = terminals_at(reader, spot, steps);
+    if can_begin_among(reader, symbol, spot, set, steps) {
+        return false;
+    }
+    are_missing(reader, set, rows, spot)
 }
 
 /// Whether no further turn comes after this one: only one may, or it read nothing.
@@ -226,6 +279,9 @@ fn turns<L: Ledger>(
     let mut at = spot.at;
     loop {
         let here = Spot { at, ..spot };
+        if is_over(reader, symbol, more.rows, here, steps) {
+            return Ok(Reached::At(at));
+        }
         if !all_hold(reader, here, draft, more.conditions, steps) {
             return Ok(Reached::At(at));
         }
@@ -237,7 +293,7 @@ fn turns<L: Ledger>(
             }
             return Ok(Reached::At(at));
         }
-        match grown(alloc, taking, draft, turn, found)? {
+        match grown(alloc, taking, draft, &mut turn, found)? {
             Reached::At(end) => {
                 if is_last_turn(more.many, at, end) {
                     return Ok(Reached::At(end));
@@ -283,7 +339,7 @@ fn commas<L: Ledger>(
             }
             return Ok(Reached::At(at));
         }
-        match grown(alloc, false, draft, item, found)? {
+        match grown(alloc, false, draft, &mut item, found)? {
             Reached::At(end) => match comma_at(reader, Spot { at: end, ..spot }, steps) {
                 None => return Ok(Reached::At(end)),
                 Some(comma) => {
@@ -313,20 +369,19 @@ fn read_into<L: Ledger>(
     ensures ends { IfOk result
         (λ r. EndsFrom reader.old spot.at (outcome_of r draft.new)) }
 {
-    if reader.is_refused(symbol, spot) {
-        return Ok(Reached::Nothing);
-    }
     match head_of(symbol) {
         None => {
+            // Refusals are kept of symbols without a head alone.
+            if reader.is_refused(symbol, spot) {
+                return Ok(Reached::Nothing);
+            }
             let reached = read_headless(alloc, reader, symbol, spot, draft, steps)?;
             refuse_if(reader, symbol, spot, reached);
             Ok(reached)
         }
         Some(head) => {
             let first = read_into(alloc, reader, head, spot, draft, steps)?;
-            let reached = turns_behind(alloc, reader, symbol, spot, first, draft, steps)?;
-            refuse_if(reader, symbol, spot, reached);
-            Ok(reached)
+            turns_behind(alloc, reader, symbol, spot, first, draft, steps)
         }
     }
 }
@@ -342,17 +397,37 @@ fn refuse_if(reader: &mut Reader, symbol: Symbol, spot: Spot, reached: Reached)
     }
 }
 
+/// The symbol that stands behind the symbol among these.
+macro_rules! heads {
+    ($symbol:ident; $($behind:ident $head:ident),*) => {
+        match $symbol {
+            $(Symbol::$behind => Some(Symbol::$head),)*
+            _ => None,
+        }
+    };
+}
+
 /// The symbol at the head of the symbol's rule, with turns behind it.
 #[inline(never)]
+#[tactic(auto, unfolding(es_grammar::specs::Grammar::rule_of, es_grammar::specs::Expressions::expression_rule, es_grammar::specs::Statements::statement_rule, es_grammar::specs::Functions::function_rule, es_grammar::specs::Modules::module_rule, es_grammar::specs::Ranks::rank_of))]
 fn head_of(symbol: Symbol) -> Option<Symbol>
     ensures head { result ≡ head_of (rule_of symbol) }
     ensures below { IfSome result (λ head. rank_of head < rank_of symbol) }
     ensures low { rank_of symbol < 64 }
 {
-    match rule_at(symbol) {
-        Rule::Behind(head, _) => Some(head),
-        _ => None,
-    }
+    heads![symbol;
+        CallChain CallChainStart, NewCallee NewCalleeStart, UpdateExpression LeftHandSideExpression,
+        ExponentiationExpression UnaryExpression, MultiplicativeExpression ExponentiationExpression,
+        AdditiveExpression MultiplicativeExpression, ShiftExpression AdditiveExpression,
+        RelationalExpression RelationalOperand, EqualityExpression RelationalExpression,
+        BitwiseANDExpression EqualityExpression, BitwiseXORExpression BitwiseANDExpression,
+        BitwiseORExpression BitwiseXORExpression, LogicalANDExpression BitwiseORExpression,
+        LogicalORExpression LogicalANDExpression, ShortCircuitExpression LogicalORExpression,
+        ConditionalExpression ShortCircuitExpression, SimpleAssignment ConditionalExpression,
+        AssignmentElement AssignmentTarget, Expression AssignmentExpression,
+        DeclaratorList Declarator, BindingElement BindingTarget,
+        SingleNameBinding BindingIdentifier
+    ]
 }
 
 /// What the symbol reads whose rule has a head, where that was read so far.

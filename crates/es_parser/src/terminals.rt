@@ -1,29 +1,29 @@
 //! The tokens that the terminals of the grammar read.
-ghost use Rattle.std.specs.Prelude.{◌≡◌, ◌<◌, IfSome};
+ghost use Rattle.std.specs.Prelude.{◌≡◌, ◌<◌, ◌==◌, IfSome, false};
+ghost use Rattle.std.specs.Int.{bit_at};
 ghost use Rattle.std.specs.Str.{IsCharBoundary};
-ghost use Rattle.es_grammar.specs.Terminals.{mode_of, terminal_at};
 ghost use Rattle.es_grammar.specs.Reading.{comma_at};
-ghost use Rattle.es_parser.specs.Kept.{IsWithin};
+ghost use Rattle.es_grammar.specs.Terminals.{terminal_at};
+ghost use Rattle.es_grammar.specs.TerminalSets.{code_of};
+ghost use Rattle.es_parser.specs.Kept.{IsWithin, goes_on};
 
 use crate::reader::Reader;
+use crate::sets::terminals_at;
+use crate::tested::{mode_of, tested};
 use es_grammar::{Context, Spot, Terminal};
-use es_text::{LexMode, Steps, Token};
+use es_text::{Steps, Token};
 use std::sync::ledger::Ledger;
 
-/// The mode in which the terminal reads its token.
-#[tactic(auto, unfolding(es_grammar::specs::Terminals::mode_of))]
-fn mode_of(terminal: Terminal) -> LexMode
-    ensures { result ≡ mode_of terminal }
+/// Whether the set has the terminal.
+pub fn has(set: u128, terminal: Terminal) -> bool
+    ensures { result ≡ (bit_at set (code_of terminal) == 1) }
 {
-    match terminal {
-        Terminal::RegExp => LexMode::RegExp,
-        Terminal::Middle | Terminal::Tail => LexMode::TemplateTail,
-        _ => LexMode::Division,
-    }
+    let code = terminal.code();
+    code < 128 && set >> code & 1 == 1
 }
 
-/// The token that the terminal reads from this offset on.
-#[tactic(auto, unfolding(es_grammar::specs::Terminals::terminal_at))]
+/// The token that the terminal reads from this offset on: a look-up in the set that is kept, but for the
+/// later parts of templates.
 pub fn terminal_at<L: Ledger>(
     reader: &mut Reader,
     context: Context,
@@ -36,9 +36,34 @@ pub fn terminal_at<L: Ledger>(
     ensures token { result ≡ terminal_at reader.old context terminal at }
     ensures within { IfSome result (λ found. IsWithin reader.old at found) }
 {
-    let found = reader.token(at, mode_of(terminal), steps)?;
-    if terminal.reads(context, found.kind, reader.text_of(found)) {
-        Some(found)
+    match terminal {
+        Terminal::Middle | Terminal::Tail => tested(reader, context, terminal, at, steps),
+        _ => plain_terminal_at(reader, context, terminal, at, steps),
+    }
+}
+
+/// The same for a terminal that reads no later part of a template.
+fn plain_terminal_at<L: Ledger>(
+    reader: &mut Reader,
+    context: Context,
+    terminal: Terminal,
+    at: u32,
+    steps: &mut Steps<L>,
+) -> Option<Token>
+    requires boundary { IsCharBoundary reader.old at }
+    requires plain { goes_on terminal ≡ false }
+    ensures same { reader.new ≡ reader.old }
+    ensures token { result ≡ terminal_at reader.old context terminal at }
+    ensures within { IfSome result (λ found. IsWithin reader.old at found) }
+{
+    let spot = Spot {
+        at,
+        context,
+        room: 0,
+    };
+    let set = terminals_at(reader, spot, steps);
+    if has(set, terminal) {
+        reader.token(at, mode_of(terminal), steps)
     } else {
         None
     }

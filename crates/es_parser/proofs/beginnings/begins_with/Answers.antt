@@ -1,11 +1,6 @@
-use Rattle.std.proofs.Common.{◌≡◌, ◌∙◌, Bool, true, false, Option, Some, None, refl, sym, ap}
-use Rattle.std.specs.Prelude.{IsSome, IsTrue, is_some}
+use Rattle.std.proofs.Common.{◌≡◌, ◌∙◌, Bool, true, false, refl, sym, ap}
+use Rattle.std.specs.Prelude.{is_some}
 use Rattle.std.specs.Bool.{OnTrue}
-use Rattle.es_grammar.specs.declared.part.Terminal.{Terminal}
-use Rattle.es_grammar.specs.declared.symbol.Symbol.{Symbol}
-use Rattle.es_grammar.specs.Firsts.{BeginsTurn}
-use Rattle.es_grammar.specs.TerminalSets.{HasTerminal}
-use Rattle.es_grammar.specs.Terminals.{terminal_at}
 use Rattle.es_parser.proofs.BeginningsLemmas.{only_this}
 use Rattle.es_parser.proofs.beginnings.begins_with.Goals as goal
 
@@ -16,6 +11,6 @@ told false f = tt
 pub returns-then-can_begin-clause-some : goal.returns-then-can_begin-clause-some
 returns-then-can_begin-clause-some g c = told c.is_some.result (λ so.
     let begins = c.can_begin.ensures.some c.if-can_begin.true in (
-      only_this c.args.symbol c.args.terminal begins.0 c.code.result c.code.ensures c.requires.code begins.1 begins.2,
+      only_this c.one_code.ensures c.args.symbol c.args.terminal begins.0 c.code.result c.code.ensures c.requires.code begins.1 begins.2,
       ap is_some (sym c.terminal_at.ensures.token) ∙ sym c.is_some.ensures ∙ so,
     ))

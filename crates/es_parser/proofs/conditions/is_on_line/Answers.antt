@@ -1,4 +1,4 @@
-use Rattle.std.proofs.Common.{◌≡◌, Some, ap, sym, ◌∙◌}
+use Rattle.std.proofs.Common.{ap, sym, ◌∙◌}
 use Rattle.std.specs.Prelude.{not}
 use Rattle.es_text.specs.declared.token.LexMode.TheVariants.{Division}
 use Rattle.es_parser.proofs.ConditionsLemmas.{token_line}

@@ -1,4 +1,4 @@
-use Rattle.std.proofs.Common.{◌≡◌, ◌∙◌, ◌-◌, ap, sym, length, arith}
+use Rattle.std.proofs.Common.{◌∙◌, ◌-◌, ap, sym, length, arith}
 use Rattle.es_grammar.specs.declared.draft.Child.{Child}
 use Rattle.es_parser.proofs.ConditionsLemmas.{last_child}
 use Rattle.es_parser.proofs.conditions.last_shape.Goals as goal

@@ -1,4 +1,4 @@
-use Rattle.std.proofs.Common.{◌≡◌, ◌∙◌, Some, None, Option, ap, sym}
+use Rattle.std.proofs.Common.{◌∙◌, Option, ap, sym}
 use Rattle.std.specs.Prelude.{option_copied, option_map}
 use Rattle.es_tree.specs.declared.shape.SetAttribute.{SetAttribute}
 use Rattle.es_parser.proofs.ConditionsLemmas.{value_found}

@@ -1,9 +1,7 @@
-use Rattle.std.proofs.Common.{◌≡◌, ◌∙◌, sym, true, false, arith}
-use Rattle.std.specs.Prelude.{nat_lt}
+use Rattle.std.proofs.Common.{◌∙◌, sym, arith}
 use Rattle.std.proofs.lemmas.Bool.{lt-ltb, le-ltb}
-use Rattle.es_grammar.specs.declared.draft.Draft.{Draft}
 use Rattle.es_grammar.specs.declared.draft.Outcome.TheVariants.{Not, Deep, Read}
-use Rattle.es_grammar.specs.Trees.{at_end, is_at_end, is_low, item_of, item_spot, nothing_read, too_deep, too_high, unread}
+use Rattle.es_grammar.specs.Trees.{at_end, item_of, item_spot, nothing_read, too_deep, too_high, unread}
 use Rattle.es_parser.proofs.ProgramLemmas.{ends_there, item_read, read_there}
 use Rattle.es_parser.proofs.items.item_at.Goals as goal
 

@@ -1,4 +1,4 @@
-use Rattle.std.proofs.Common.{◌≡◌, ◌∙◌, ◌++◌, ap, length}
+use Rattle.std.proofs.Common.{◌≡◌, ◌++◌, length}
 use Rattle.std.specs.Prelude.{encode_utf8}
 use Rattle.es_parser.proofs.CharsLemmas.{empty_chars, last_char, none_has}
 use Rattle.es_parser.proofs.leaves.split_last.Goals as goal

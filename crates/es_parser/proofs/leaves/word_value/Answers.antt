@@ -1,4 +1,4 @@
-use Rattle.std.proofs.Common.{◌≡◌, ◌∙◌, ap, sym, ◌∷◌, [], true, false}
+use Rattle.std.proofs.Common.{◌≡◌, ◌∙◌, ap, sym, ◌∷◌, []}
 use Rattle.std.specs.Str.{chars}
 use Rattle.es_grammar.specs.declared.draft.Setting.{Setting}
 use Rattle.es_grammar.specs.declared.part.Field.TheVariants as f

@@ -1,4 +1,4 @@
-use Rattle.std.proofs.Common.{◌≡◌, true, ℕ, ◌-◌, length}
+use Rattle.std.proofs.Common.{◌≡◌, true, ◌-◌, length}
 use Rattle.std.specs.Str.{IsCharBoundary}
 use Rattle.es_text.specs.Texts.{text_bytes}
 use Rattle.es_grammar.specs.Drafts.{empty}

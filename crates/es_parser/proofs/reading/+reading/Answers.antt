@@ -1,20 +1,17 @@
-use Rattle.std.proofs.Common.{◌≡◌, ◌∙◌, ℕ, List, [], map, get_or, drop, subst, sym, refl, ap, arith, rules, IfOk, Result, Ok}
+use Rattle.std.proofs.Common.{◌≡◌, ◌∙◌, [], map, get_or, subst, sym, refl, ap, arith, rules}
 use Rattle.std.specs.Str.{IsCharBoundary}
-use Rattle.es_grammar.specs.declared.draft.Outcome.{Outcome}
-use Rattle.es_grammar.specs.declared.draft.Outcome.TheVariants.{Not, Deep, Read}
 use Rattle.es_grammar.specs.declared.part.Alternative.{Alternative}
 use Rattle.es_grammar.specs.declared.part.Product.TheVariants as product
 use Rattle.es_grammar.specs.Drafts.{empty}
-use Rattle.es_grammar.specs.Grammar.{rule_of}
 use Rattle.es_grammar.specs.Parts.{finish}
 use Rattle.es_grammar.specs.Ranks.{rank_of}
 use Rattle.es_grammar.specs.Rules.{row}
 use Rattle.std.specs.Prelude.{false, Some, None}
 use Rattle.es_grammar.specs.Contexts.{moved}
-use Rattle.es_grammar.specs.Reading.{Reads, ReadsChoice, ReadsCommas, ReadsParts, comma_at}
+use Rattle.es_grammar.specs.Reading.{Reads, ReadsCommas, ReadsParts, comma_at}
 use Rattle.es_parser.specs.Ends.{EndsFrom}
-use Rattle.es_parser.specs.Turns.{outcome_of}
-use Rattle.es_parser.proofs.ReadingLemmas.{if_ok, at_ok, at_ends, behind_none, behind_ranked, behind_rows, behind_stopped, behind_turns, by_list, by_more, by_rows, can_in, deeper_read, ends_in, ends_later, extended_ends, finished_ends, grown_ends, head_below, headless_unless, is_not_unless, list_broken, list_last, list_next, list_over, list_ranked, list_rows, list_stop, more_rows, moves_on, no_head, no_room, part_below_at, parts_done, parts_step, parts_stop, read_behind, refused, rows_below_at, rows_first, rows_next, rows_none, rows_ranked, stops_unless_at, symbol_below, symbol_read, turns_last, turns_left, turns_next, turns_over, turns_ranked, turns_stop, turns_stuck}
+use Rattle.es_parser.specs.Turns.{IsOver, outcome_of}
+use Rattle.es_parser.proofs.ReadingLemmas.{after_bare, if_ok, at_ok, at_ends, behind_none, behind_stopped, behind_turns, by_list, by_more, by_rows, can_in, deeper_read, ends_later, extended_ends, finished_ends, grown_ends, is_not_unless, list_broken, list_last, list_next, list_over, list_stop, moves_on, no_room, parts_done, parts_step, parts_stop, refused, rows_below_at, rows_first, rows_next, rows_none, stops_unless_at, symbol_below, symbol_read, turns_last, turns_left, turns_next, turns_over, turns_over_at_once, turns_stop, turns_stuck}
 use Rattle.es_parser.proofs.reading.+reading.Goals as goal
 
 no_alternative : Alternative
@@ -22,7 +19,17 @@ no_alternative = record { makes = product.Parts; parts = record { ref_ptr = (0, 
 
 -- rows
 pub choice-loop-each-init : goal.choice-loop-each-init
-choice-loop-each-init g t c = record { same = refl; reads = λ seed o h. h }
+choice-loop-each-init g t c = record { same = c.terminals_at-set.ensures.same; reads = λ seed o h. h }
+
+pub choice-loop-each-preserved-then-is_missing : goal.choice-loop-each-preserved-then-is_missing
+unfolding no_alternative
+choice-loop-each-preserved-then-is_missing g t c =
+    let same = c.loop-each.invariant.same in
+    record {
+      same = same;
+      reads = λ seed o h. c.loop-each.invariant.reads seed o
+          (rows_next same refl no_alternative c.args.rows.now c.loop-each.each-index c.loop-each-test.true (c.if-is_missing.ensures empty) refl h);
+    }
 
 pub choice-loop-each-preserved : goal.choice-loop-each-preserved
 unfolding no_alternative
@@ -110,8 +117,14 @@ part-returns-else-spot-eq0-clause-reads g t c =
     c.inner_symbol-in-Deeper.ensures.reads
 
 -- a symbol as a part
-pub inner_symbol-returns-clause-reads : goal.inner_symbol-returns-clause-reads
-inner_symbol-returns-clause-reads g t c =
+pub inner_symbol-returns-then-is_bare-clause-reads : goal.inner_symbol-returns-then-is_bare-clause-reads
+inner_symbol-returns-then-is_bare-clause-reads g t c =
+    if_ok _ _ c.read_into.result
+    (λ r reads. (outcome_of r c.read_into.new.draft, reads, after_bare (outcome_of r c.read_into.new.draft) c.if-is_bare.ensures.0 c.if-is_bare.ensures.1))
+    c.read_into.ensures.reads
+
+pub symbol_behind-returns-clause-reads : goal.symbol_behind-returns-clause-reads
+symbol_behind-returns-clause-reads g t c =
     if_ok _ _ c.extended.result
     (λ r h. (
       outcome_of h.0 c.read_into-reached.new.draft,
@@ -120,8 +133,8 @@ inner_symbol-returns-clause-reads g t c =
     ))
     c.extended.ensures
 
-pub inner_symbol-returns-clause-ends : goal.inner_symbol-returns-clause-ends
-inner_symbol-returns-clause-ends g t c =
+pub symbol_behind-returns-clause-ends : goal.symbol_behind-returns-clause-ends
+symbol_behind-returns-clause-ends g t c =
     if_ok _ _ c.extended.result
     (λ r h. extended_ends c.args.reader.now c.args.spot.at c.args.draft.now c.read_into-reached.new.draft c.args.field h.0 r c.extended.new.draft
     (at_ok (λ q. EndsFrom c.args.reader.now c.args.spot.at (outcome_of q c.read_into-reached.new.draft)) c.read_into-reached.result h.0 h.1 c.read_into-reached.ensures.ends) h.2)
@@ -131,26 +144,37 @@ inner_symbol-returns-clause-ends g t c =
 pub turns-loop-alloc-init : goal.turns-loop-alloc-init
 turns-loop-alloc-init g t c = record { same = refl; order = omega arith; ends = c.requires.boundary; reads = λ o h. h }
 
+pub turns-returns-then-is_over-clause-reads : goal.turns-returns-then-is_over-clause-reads
+turns-returns-then-is_over-clause-reads g t c =
+    c.loop-alloc.invariant.reads _
+    (turns_over_at_once c.args.spot c.args.taking c.args.more
+    (subst (λ text. IsOver text (map row c.args.more.rows.now) (moved c.args.spot c.loop-alloc.at)) c.loop-alloc.invariant.same c.if-is_over.ensures.over))
+
+pub turns-returns-then-is_over-clause-ends : goal.turns-returns-then-is_over-clause-ends
+turns-returns-then-is_over-clause-ends g t c = (c.loop-alloc.invariant.order, c.loop-alloc.invariant.ends)
+
 pub turns-returns-then-not-all_hold-clause-reads : goal.turns-returns-then-not-all_hold-clause-reads
 turns-returns-then-not-all_hold-clause-reads g t c =
-    c.loop-alloc.invariant.reads _ (turns_left c.args.spot c.args.taking c.args.more c.loop-alloc.invariant.same c.all_hold.ensures.so c.if-not-all_hold.true)
+    c.loop-alloc.invariant.reads _ (turns_left c.args.spot c.args.taking c.args.more (c.is_over.ensures.same ∙ c.loop-alloc.invariant.same) c.all_hold.ensures.so c.if-not-all_hold.true)
 
 pub turns-returns-then-not-all_hold-clause-ends : goal.turns-returns-then-not-all_hold-clause-ends
 turns-returns-then-not-all_hold-clause-ends g t c = (c.loop-alloc.invariant.order, c.loop-alloc.invariant.ends)
 
 pub turns-returns-then-can_begin-clause-reads : goal.turns-returns-then-can_begin-clause-reads
 turns-returns-then-can_begin-clause-reads g t c =
-    let held = c.all_hold.ensures.same ∙ c.loop-alloc.invariant.same in
+    let before = c.is_over.ensures.same ∙ c.loop-alloc.invariant.same in
+    let held = c.all_hold.ensures.same ∙ before in
     c.loop-alloc.invariant.reads _
-    (turns_stuck c.args.spot c.args.taking c.args.more c.in_ok-found.found.makes c.in_ok-found.found.reached c.choice.new.draft c.loop-alloc.invariant.same
+    (turns_stuck c.args.spot c.args.taking c.args.more c.in_ok-found.found.makes c.in_ok-found.found.reached c.choice.new.draft before
     c.all_hold.ensures.so c.if-not-all_hold.false held c.in_ok-found.ensures.reads c.in-Nothing.is c.requires.rows
     (can_in (c.in_ok-found.ensures.same ∙ held) refl c.if-can_begin.ensures.some))
 
 pub turns-returns-in-Nothing-clause-reads : goal.turns-returns-in-Nothing-clause-reads
 turns-returns-in-Nothing-clause-reads g t c =
-    let held = c.all_hold.ensures.same ∙ c.loop-alloc.invariant.same in
+    let before = c.is_over.ensures.same ∙ c.loop-alloc.invariant.same in
+    let held = c.all_hold.ensures.same ∙ before in
     c.loop-alloc.invariant.reads _
-    (turns_over c.args.spot c.args.taking c.args.more c.in_ok-found.found.makes c.in_ok-found.found.reached c.choice.new.draft c.loop-alloc.invariant.same
+    (turns_over c.args.spot c.args.taking c.args.more c.in_ok-found.found.makes c.in_ok-found.found.reached c.choice.new.draft before
     c.all_hold.ensures.so c.if-not-all_hold.false held c.in_ok-found.ensures.reads c.in-Nothing.is c.requires.rows
     (λ can. c.if-can_begin.ensures.none (can_in (sym (c.in_ok-found.ensures.same ∙ held)) refl can)))
 
@@ -159,7 +183,8 @@ turns-returns-in-Nothing-clause-ends g t c = (c.loop-alloc.invariant.order, c.lo
 
 pub turns-returns-then-is_last_turn : goal.turns-returns-then-is_last_turn
 turns-returns-then-is_last_turn g t c =
-    let held = c.all_hold.ensures.same ∙ c.loop-alloc.invariant.same in
+    let before = c.is_over.ensures.same ∙ c.loop-alloc.invariant.same in
+    let held = c.all_hold.ensures.same ∙ before in
     let grown = grown_ends c.loop-alloc.at c.args.taking c.loop-alloc.draft c.choice.new.draft c.in_ok-found.found.makes c.in_ok-found.found.reached
     c.in_ok-stopped.stopped c.grown.new.draft held c.in_ok-found.ensures.ends c.in_ok-stopped.ensures in
     let ended = at_ends c.loop-alloc.at c.in_ok-stopped.stopped c.grown.new.draft refl c.in-At.is grown in
@@ -167,14 +192,15 @@ turns-returns-then-is_last_turn g t c =
       same = c.in_ok-found.ensures.same ∙ held;
       reads = c.loop-alloc.invariant.reads _
           (turns_last c.args.spot c.args.taking c.args.more c.in_ok-found.found.makes c.in_ok-found.found.reached c.choice.new.draft c.in_ok-stopped.stopped
-          c.grown.new.draft c.loop-alloc.invariant.same c.all_hold.ensures.so c.if-not-all_hold.false held c.in_ok-found.ensures.reads c.in_ok-stopped.ensures c.in-At.is
+          c.grown.new.draft before c.all_hold.ensures.so c.if-not-all_hold.false held c.in_ok-found.ensures.reads c.in_ok-stopped.ensures c.in-At.is
           c.is_last_turn.ensures c.if-is_last_turn.true);
       ends = (omega (arith, ended.0, c.loop-alloc.invariant.order), ended.1);
     }
 
 pub turns-loop-alloc-smaller : goal.turns-loop-alloc-smaller
 turns-loop-alloc-smaller g t c =
-    let held = c.all_hold.ensures.same ∙ c.loop-alloc.invariant.same in
+    let before = c.is_over.ensures.same ∙ c.loop-alloc.invariant.same in
+    let held = c.all_hold.ensures.same ∙ before in
     let grown = grown_ends c.loop-alloc.at c.args.taking c.loop-alloc.draft c.choice.new.draft c.in_ok-found.found.makes c.in_ok-found.found.reached
     c.in_ok-stopped.stopped c.grown.new.draft held c.in_ok-found.ensures.ends c.in_ok-stopped.ensures in
     let ended = at_ends c.loop-alloc.at c.in_ok-stopped.stopped c.grown.new.draft refl c.in-At.is grown in
@@ -182,7 +208,8 @@ turns-loop-alloc-smaller g t c =
 
 pub turns-loop-alloc-preserved : goal.turns-loop-alloc-preserved
 turns-loop-alloc-preserved g t c =
-    let held = c.all_hold.ensures.same ∙ c.loop-alloc.invariant.same in
+    let before = c.is_over.ensures.same ∙ c.loop-alloc.invariant.same in
+    let held = c.all_hold.ensures.same ∙ before in
     let grown = grown_ends c.loop-alloc.at c.args.taking c.loop-alloc.draft c.choice.new.draft c.in_ok-found.found.makes c.in_ok-found.found.reached
     c.in_ok-stopped.stopped c.grown.new.draft held c.in_ok-found.ensures.ends c.in_ok-stopped.ensures in
     let ended = at_ends c.loop-alloc.at c.in_ok-stopped.stopped c.grown.new.draft refl c.in-At.is grown in
@@ -192,18 +219,19 @@ turns-loop-alloc-preserved g t c =
       ends = ended.1;
       reads = λ o h. c.loop-alloc.invariant.reads o
           (turns_next c.args.spot c.args.taking c.args.more c.in_ok-found.found.makes c.in_ok-found.found.reached c.choice.new.draft c.in_ok-stopped.stopped
-          c.grown.new.draft c.loop-alloc.invariant.same c.all_hold.ensures.so c.if-not-all_hold.false held c.in_ok-found.ensures.reads c.in_ok-stopped.ensures c.in-At.is
+          c.grown.new.draft before c.all_hold.ensures.so c.if-not-all_hold.false held c.in_ok-found.ensures.reads c.in_ok-stopped.ensures c.in-At.is
           c.is_last_turn.ensures c.if-is_last_turn.false h);
     }
 
 pub turns-returns-in_default-2 : goal.turns-returns-in_default-2
 turns-returns-in_default-2 g t c =
-    let held = c.all_hold.ensures.same ∙ c.loop-alloc.invariant.same in
+    let before = c.is_over.ensures.same ∙ c.loop-alloc.invariant.same in
+    let held = c.all_hold.ensures.same ∙ before in
     record {
       same = c.in_ok-found.ensures.same ∙ held;
       reads = c.loop-alloc.invariant.reads _
           (turns_stop c.args.spot c.args.taking c.args.more c.in_ok-found.found.makes c.in_ok-found.found.reached c.choice.new.draft c.in_ok-stopped.stopped
-          c.grown.new.draft c.loop-alloc.invariant.same c.all_hold.ensures.so c.if-not-all_hold.false held c.in_ok-found.ensures.reads c.in_default.not-Nothing
+          c.grown.new.draft before c.all_hold.ensures.so c.if-not-all_hold.false held c.in_ok-found.ensures.reads c.in_default.not-Nothing
           c.in_ok-stopped.ensures c.in_default-2.not-At);
       ends = ends_later c.args.reader.now c.args.spot.at c.loop-alloc.at (outcome_of c.in_ok-stopped.stopped c.grown.new.draft) c.loop-alloc.invariant.order
           (grown_ends c.loop-alloc.at c.args.taking c.loop-alloc.draft c.choice.new.draft c.in_ok-found.found.makes c.in_ok-found.found.reached

@@ -4,7 +4,6 @@ use Rattle.std.specs.Str.{IsCharBoundary}
 use Rattle.es_grammar.specs.declared.draft.Draft.{Draft}
 use Rattle.es_grammar.specs.declared.draft.Outcome.{Outcome}
 use Rattle.es_grammar.specs.Contexts.{moved}
-use Rattle.es_grammar.specs.Drafts.{empty}
 use Rattle.es_grammar.specs.Ranks.{rank_of}
 use Rattle.es_grammar.specs.Rules.{row, turns}
 use Rattle.es_grammar.specs.Reading.{ReadsChoice, ReadsCommas, ReadsParts, ReadsTurns}
@@ -38,8 +37,11 @@ decreases-read_headless g l = measure l.spot.room (rank_of l.symbol) 4
 abbrev pub decreases-read_into : goal.decreases-read_into
 decreases-read_into g l = measure l.spot.room (rank_of l.symbol) 5
 
+abbrev pub decreases-symbol_behind : goal.decreases-symbol_behind
+decreases-symbol_behind g l = measure l.spot.room (rank_of l.symbol) 6
+
 abbrev pub decreases-inner_symbol : goal.decreases-inner_symbol
-decreases-inner_symbol g l = measure l.spot.room (rank_of l.symbol) 6
+decreases-inner_symbol g l = measure l.spot.room (rank_of l.symbol) 7
 
 -- whatever is read from here on is read from the beginning
 abbrev pub invariant-parts-loop-each : goal.invariant-parts-loop-each

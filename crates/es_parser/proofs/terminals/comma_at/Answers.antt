@@ -1,4 +1,4 @@
-use Rattle.std.proofs.Common.{◌≡◌, ◌<◌, ◌≤◌, ℕ, List, Some, None, Option, sym, arith}
+use Rattle.std.proofs.Common.{◌≡◌, ◌<◌, ℕ, List, Some, None, Option, sym, arith}
 use Rattle.std.specs.Prelude.{IfSome}
 use Rattle.es_text.specs.declared.token.Token.{Token}
 use Rattle.es_grammar.specs.declared.context.Context.{Context}

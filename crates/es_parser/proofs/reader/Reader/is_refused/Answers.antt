@@ -1,4 +1,4 @@
-use Rattle.std.proofs.Common.{◌≡◌, Bool, true, false, Some, None, subst, sym}
+use Rattle.std.proofs.Common.{◌≡◌, Bool, true, false, subst, sym}
 use Rattle.std.specs.Bool.{OnTrue}
 use denote.Enum.Bare.{sameb, same_true}
 use Rattle.es_grammar.specs.contracts.symbol.Symbol.{the_type}

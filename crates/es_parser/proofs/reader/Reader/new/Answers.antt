@@ -1,4 +1,4 @@
-use Rattle.std.proofs.Common.{◌≡◌, ℕ, List, Some, None, Option, ap, length, arith}
+use Rattle.std.proofs.Common.{ℕ, List, Some, None, Option, ap, length, arith}
 use Rattle.std.specs.Prelude.{IsNone}
 use Rattle.es_text.specs.Texts.{text_bytes}
 use Rattle.es_parser.specs.declared.reader.KeptTerminals.{KeptTerminals}

@@ -1,6 +1,6 @@
 use Rattle.std.proofs.Common.{◌≡◌}
 use Rattle.es_parser.specs.Found.{Found}
-use Rattle.es_parser.proofs.beginnings.find_between.Given as goal
+use Rattle.es_parser.proofs.sets.find_between.Given as goal
 
 abbrev pub invariant-loop-code : goal.invariant-loop-code
 invariant-loop-code g l = record {

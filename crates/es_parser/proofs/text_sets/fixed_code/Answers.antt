@@ -1,8 +1,8 @@
-use Rattle.std.proofs.Common.{◌≡◌, ◌+◌, ◌⊎◌, inl, inr, refl, subst, arith}
+use Rattle.std.proofs.Common.{◌+◌, inl, inr, refl, subst}
 use Rattle.es_tables.specs.Rows.{HasRow}
 use Rattle.es_tables.specs.Words.{keyword_words, punctuator_words}
 use Rattle.es_parser.proofs.FixedLemmas.{got_either, got_left, got_right}
-use Rattle.es_parser.proofs.beginnings.fixed_code.Goals as goal
+use Rattle.es_parser.proofs.text_sets.fixed_code.Goals as goal
 
 pub returns-in-Some-clause-some : goal.returns-in-Some-clause-some
 returns-in-Some-clause-some c =

@@ -1,7 +1,6 @@
-use Rattle.std.proofs.Common.{◌≡◌, arith}
 use Rattle.std.specs.Int.{w128}
 use Rattle.std.proofs.lemmas.Nat.Bits.{bit_at_set_same, bit_at_set_other}
-use Rattle.es_parser.proofs.beginnings.with_found.Goals as goal
+use Rattle.es_parser.proofs.sets.with_found.Goals as goal
 
 pub returns-then-found-clause-others : goal.returns-then-found-clause-others
 returns-then-found-clause-others c = λ k apart. bit_at_set_other w128 c.args.set c.args.code c.requires k apart

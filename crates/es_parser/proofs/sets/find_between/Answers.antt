@@ -1,9 +1,9 @@
-use Rattle.std.proofs.Common.{◌≡◌, Bool, sym, ap, ◌∙◌, refl, arith, rules, subst}
+use Rattle.std.proofs.Common.{◌≡◌, ap, ◌∙◌, refl, arith, subst}
 use Rattle.std.specs.Prelude.{is_some}
 use Rattle.es_parser.specs.Found.{Found}
 use Rattle.es_parser.specs.Kept.{plain_at}
 use Rattle.es_parser.proofs.BeginningsLemmas.{more_found}
-use Rattle.es_parser.proofs.beginnings.find_between.Goals as goal
+use Rattle.es_parser.proofs.sets.find_between.Goals as goal
 
 pub loop-code-init : goal.loop-code-init
 loop-code-init g c = record { same = refl; found = c.requires.below }
@@ -16,7 +16,7 @@ loop-code-preserved g c =
     c.is_some.ensures ∙ ap is_some (c.plain_at-found.ensures.token ∙ ap (λ reader. plain_at reader c.args.spot.context c.terminal_of.result c.args.spot.at) same) in
     record {
       same = c.plain_at-found.ensures.same ∙ same;
-      found = more_found text c.args.spot.context c.args.spot.at c.loop-code.set c.with_found-set.result c.loop-code.code c.terminal_of.result c.is_some.result
+      found = more_found text c.args.spot.context c.args.spot.at c.one_code.ensures c.loop-code.set c.with_found-set.result c.loop-code.code c.terminal_of.result c.is_some.result
           c.loop-code.invariant.found c.terminal_of.ensures found c.with_found-set.ensures.others c.with_found-set.ensures.this c.with_found-set.ensures.none;
     }
 

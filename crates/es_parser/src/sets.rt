@@ -1,0 +1,150 @@
+//! The sets of the terminals that read a token.
+ghost use Rattle.std.specs.Prelude.{◌≡◌, ◌≢◌, ◌+◌, ◌<◌, ◌≤◌, ℕ, Some, IfNone, IfSome, slice_get, true, false};
+ghost use Rattle.std.specs.Int.{bit_at};
+ghost use Rattle.std.specs.Str.{IsCharBoundary};
+ghost use Rattle.es_grammar.specs.TerminalSets.{code_of};
+ghost use Rattle.es_parser.specs.Found.{Found, fixed_words};
+ghost use Rattle.es_parser.specs.Kept.{HasTerminals, plain_at};
+
+use crate::reader::{KeptTerminals, Reader};
+use crate::tested::tested;
+use crate::text_sets::{text_code, text_set};
+use es_grammar::{Spot, Terminal, one_code};
+use es_text::{LexMode, Steps, Token};
+use std::sync::ledger::Ledger;
+
+/// The terminal with this code.
+#[tactic(auto, unfolding(es_grammar::specs::TerminalSets::code_of))]
+fn terminal_of(code: u32) -> Terminal
+    requires { code < 276 }
+    ensures { code_of result ≡ code }
+{
+    match code {
+        0 => Terminal::Word,
+        1 => Terminal::Name,
+        2 => Terminal::Private,
+        3 => Terminal::Number,
+        4 => Terminal::Text,
+        5 => Terminal::RegExp,
+        6 => Terminal::Full,
+        7 => Terminal::Head,
+        8 => Terminal::Middle,
+        9 => Terminal::Tail,
+        10 => Terminal::AccessorWord,
+        11 => Terminal::DeclarationWord,
+        12 => Terminal::AssignmentOperator,
+        13 => Terminal::EqualityOperator,
+        14 => Terminal::RelationalOperator,
+        15 => Terminal::ShiftOperator,
+        16 => Terminal::AdditiveOperator,
+        17 => Terminal::MultiplicativeOperator,
+        18 => Terminal::UnaryOperator,
+        19 => Terminal::UpdateOperator,
+        other => Terminal::Spelled((other - 20) as u8),
+    }
+}
+
+/// The set with this code, where a token is found for it.
+fn with_found(set: u128, code: u32, found: bool) -> u128
+    requires { code < 128 }
+    ensures others { (k : ℕ) → k ≢ code → bit_at result k ≡ bit_at set k }
+    ensures this { found ≡ true → bit_at result code ≡ 1 }
+    ensures none { found ≡ false → result ≡ set }
+{
+    if found { set | 1 << code } else { set }
+}
+
+/// How many terminals read tokens by their kinds; the others read them by their texts.
+const KINDS: u32 = 10;
+
+/// How many terminals there are in all.
+const COUNT: u32 = 125;
+
+/// The token that the terminal reads, where that is no later part of a template: such a part may be long,
+/// and begins only what reads one.
+fn plain_at<L: Ledger>(
+    reader: &mut Reader,
+    spot: Spot,
+    terminal: Terminal,
+    steps: &mut Steps<L>,
+) -> Option<Token>
+    requires { IsCharBoundary reader.old spot.at }
+    ensures same { reader.new ≡ reader.old }
+    ensures token { result ≡ plain_at reader.old spot.context terminal spot.at }
+{
+    match terminal {
+        Terminal::Middle | Terminal::Tail => None,
+        other => tested(reader, spot.context, other, spot.at, steps),
+    }
+}
+
+/// The set with those of the codes from one up to another whose terminals read the next token.
+fn find_between<L: Ledger>(
+    reader: &mut Reader,
+    spot: Spot,
+    set: u128,
+    from: u32,
+    to: u32,
+    steps: &mut Steps<L>,
+) -> u128
+    requires boundary { IsCharBoundary reader.old spot.at }
+    requires order { (from ≤ to) × (to ≤ 125) }
+    requires below { Found reader.old spot.context spot.at set from }
+    ensures same { reader.new ≡ reader.old }
+    ensures found { Found reader.old spot.context spot.at result to }
+{
+    one_code();
+    let mut set = set;
+    for code in from..to {
+        let found = plain_at(reader, spot, terminal_of(code), steps);
+        set = with_found(set, code, found.is_some());
+    }
+    set
+}
+
+/// The set with those of the terminals that read the next token's text, where that is of a single token.
+fn with_text<L: Ledger>(reader: &mut Reader, spot: Spot, set: u128, steps: &mut Steps<L>) -> u128
+    requires boundary { IsCharBoundary reader.old spot.at }
+    requires below { Found reader.old spot.context spot.at set KINDS }
+    ensures same { reader.new ≡ reader.old }
+    ensures found { Found reader.old spot.context spot.at result COUNT }
+{
+    match reader.token(spot.at, LexMode::Division, steps) {
+        Some(token) => match text_code(spot.context, token.kind, reader.text_of(token)) {
+            Some(code) => set | text_set(code),
+            None => set,
+        },
+        None => set,
+    }
+}
+
+/// The set of the terminals that read the next token.
+fn find_terminals<L: Ledger>(reader: &mut Reader, spot: Spot, steps: &mut Steps<L>) -> u128
+    requires { IsCharBoundary reader.old spot.at }
+    ensures same { reader.new ≡ reader.old }
+    ensures set { HasTerminals reader.old spot.context spot.at result }
+{
+    let kinds = find_between(reader, spot, 0, 0, KINDS, steps);
+    with_text(reader, spot, kinds, steps)
+}
+
+/// The same, which is looked for once.
+#[inline(never)]
+pub fn terminals_at<L: Ledger>(reader: &mut Reader, spot: Spot, steps: &mut Steps<L>) -> u128
+    requires { IsCharBoundary reader.old spot.at }
+    ensures same { reader.new ≡ reader.old }
+    ensures set { HasTerminals reader.old spot.context spot.at result }
+{
+    match reader.kept_terminals(spot.at, spot.context) {
+        Some(set) => set,
+        None => {
+            let set = find_terminals(reader, spot, steps);
+            reader.keep_terminals(KeptTerminals {
+                at: spot.at,
+                context: spot.context,
+                set,
+            });
+            set
+        }
+    }
+}
