@@ -5,8 +5,6 @@ mod ancestors;
 mod around;
 mod binding;
 mod code;
-#[cfg(test)]
-mod declaration_tests;
 mod declarations;
 mod defaults;
 mod field;

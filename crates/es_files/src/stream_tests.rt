@@ -31,18 +31,19 @@ impl Read for Slow<'_> {
     }
 }
 
+// The limit, whether the reader breaks, the fault if any, and how many of the five bytes are
+// left.
+static SLOW_READS: [(u64, bool, Option<ReadFault>, usize); 5] = [
+    (u64::MAX, false, None, 0),
+    (5, false, None, 0),
+    (4, false, Some(ReadFault::TooLong), 0),
+    (1, false, Some(ReadFault::TooLong), 3),
+    (9, true, Some(ReadFault::Failed), 0),
+];
+
 #[test]
 fn an_interrupted_read_goes_on(rt: HostRuntime) {
-    // The limit, whether the reader breaks, the fault if any, and how many of the five bytes are
-    // left.
-    let cases: [(u64, bool, Option<ReadFault>, usize); 5] = [
-        (u64::MAX, false, None, 0),
-        (5, false, None, 0),
-        (4, false, Some(ReadFault::TooLong), 0),
-        (1, false, Some(ReadFault::TooLong), 3),
-        (9, true, Some(ReadFault::Failed), 0),
-    ];
-    for (limit, broken, fault, left) in cases {
+    for &(limit, broken, fault, left) in &SLOW_READS {
         let mut reader = Slow {
             rest: b"abcde",
             tried: false,
@@ -84,14 +85,15 @@ impl Write for Tape {
     }
 }
 
+// The room, the answer, what it got, and how often it was flushed.
+static TAPES: [(usize, Result<(), SinkFault>, &[u8], u32); 2] = [
+    (9, Ok(()), b"abc", 1),
+    (2, Err(SinkFault::Failed), b"ab", 0),
+];
+
 #[test]
 fn the_standard_error_gets_all_once_and_is_flushed(rt: HostRuntime) -> Result<(), Fail> {
-    // The room, the answer, what it got, and how often it was flushed.
-    let cases: [(usize, Result<(), SinkFault>, &[u8], u32); 2] = [
-        (9, Ok(()), b"abc", 1),
-        (2, Err(SinkFault::Failed), b"ab", 0),
-    ];
-    for (room, want, got, flushes) in cases {
+    for &(room, want, got, flushes) in &TAPES {
         let mut tape = Tape {
             got: Vec::new(rt.alloc()),
             room,

@@ -25,6 +25,13 @@ fn holds(files: &MemoryFiles, name: &str, bytes: &[u8]) -> bool {
     files.held(name) == Some(bytes)
 }
 
+static READS: [(&str, u64, Result<&[u8], ReadFault>); 4] = [
+    ("A.js", 9, Err(ReadFault::Missing)),
+    ("a.js", 2, Err(ReadFault::Failed)),
+    ("a.js", 2, Ok(b"a\n")),
+    ("a.js", 1, Err(ReadFault::TooLong)),
+];
+
 #[test]
 fn reads_in_memory_fail_by_plan(rt: HostRuntime) -> Result<(), Fail> {
     let mut files = MemoryFiles::new(rt.alloc())?;
@@ -32,18 +39,19 @@ fn reads_in_memory_fail_by_plan(rt: HostRuntime) -> Result<(), Fail> {
     files.hold(rt.alloc(), "a.js", b"a\n")?;
     files.fail(rt.alloc(), false, 2, 0)?;
     files.fail(rt.alloc(), true, 1, 0)?;
-    let reads: [(&str, u64, Result<&[u8], ReadFault>); 4] = [
-        ("A.js", 9, Err(ReadFault::Missing)),
-        ("a.js", 2, Err(ReadFault::Failed)),
-        ("a.js", 2, Ok(b"a\n")),
-        ("a.js", 1, Err(ReadFault::TooLong)),
-    ];
-    for (name, limit, want) in reads {
+    for &(name, limit, want) in &READS {
         let answer = files.read(rt.alloc(), name, limit);
         check(&rt, name, answers(answer, want));
     }
     Ok(())
 }
+
+static WRITES: [(&str, &[u8], Result<(), WriteFault>, &[u8]); 4] = [
+    ("a.js", b"xyz", Ok(()), b"xyz"),
+    ("a.js", b"uv", Err(WriteFault::Failed), b"u"),
+    ("m.js", b"mm", Err(WriteFault::Failed), b"mm"),
+    ("m.js", b"", Ok(()), b""),
+];
 
 #[test]
 fn writes_in_memory_fail_by_plan(rt: HostRuntime) -> Result<(), Fail> {
@@ -52,13 +60,7 @@ fn writes_in_memory_fail_by_plan(rt: HostRuntime) -> Result<(), Fail> {
     files.fail(rt.alloc(), true, 2, 0)?;
     files.fail(rt.alloc(), true, 2, 1)?;
     files.fail(rt.alloc(), true, 3, 100)?;
-    let writes: [(&str, &[u8], Result<(), WriteFault>, &[u8]); 4] = [
-        ("a.js", b"xyz", Ok(()), b"xyz"),
-        ("a.js", b"uv", Err(WriteFault::Failed), b"u"),
-        ("m.js", b"mm", Err(WriteFault::Failed), b"mm"),
-        ("m.js", b"", Ok(()), b""),
-    ];
-    for (name, bytes, want, left) in writes {
+    for &(name, bytes, want, left) in &WRITES {
         let answer = files.write(rt.alloc(), name, bytes);
         check(&rt, name, answer == want && holds(&files, name, left));
     }
@@ -70,37 +72,39 @@ fn writes_in_memory_fail_by_plan(rt: HostRuntime) -> Result<(), Fail> {
     Ok(())
 }
 
+static SENDS: [(&[u8], Result<(), SinkFault>, &[u8]); 4] = [
+    (b"abc", Err(SinkFault::Failed), b"ab"),
+    (b"de", Ok(()), b"abde"),
+    (b"f", Err(SinkFault::Failed), b"abde"),
+    (b"g", Ok(()), b"abdeg"),
+];
+
 #[test]
 fn a_sink_in_memory_fails_by_plan(rt: HostRuntime) -> Result<(), Fail> {
     let mut sink = MemorySink::new(rt.alloc())?;
     sink.fail(rt.alloc(), 1, 2)?;
     sink.fail(rt.alloc(), 3, 7)?;
     sink.fail(rt.alloc(), 3, 0)?;
-    let sends: [(&[u8], Result<(), SinkFault>, &[u8]); 4] = [
-        (b"abc", Err(SinkFault::Failed), b"ab"),
-        (b"de", Ok(()), b"abde"),
-        (b"f", Err(SinkFault::Failed), b"abde"),
-        (b"g", Ok(()), b"abdeg"),
-    ];
-    for (bytes, want, got) in sends {
+    for &(bytes, want, got) in &SENDS {
         let answer = sink.write(rt.alloc(), bytes);
         check(&rt, "a write", answer == want && sink.got() == got);
     }
     Ok(())
 }
 
+static SURE_READS: [(&str, u64, Result<&[u8], ReadFault>); 4] = [
+    ("a.js", 2, Ok(b"a\n")),
+    ("a.js", 1, Err(ReadFault::TooLong)),
+    ("b.js", 2, Ok(b"b\n")),
+    ("c.js", 2, Err(ReadFault::Missing)),
+];
+
 #[test]
 fn sure_kinds_do_not_fail(rt: HostRuntime) -> Result<(), Fail> {
     let mut files = SureFiles::new(rt.alloc())?;
     files.hold(rt.alloc(), "a.js", b"a\n")?;
     files.write(rt.alloc(), "b.js", b"b\n")?;
-    let reads: [(&str, u64, Result<&[u8], ReadFault>); 4] = [
-        ("a.js", 2, Ok(b"a\n")),
-        ("a.js", 1, Err(ReadFault::TooLong)),
-        ("b.js", 2, Ok(b"b\n")),
-        ("c.js", 2, Err(ReadFault::Missing)),
-    ];
-    for (name, limit, want) in reads {
+    for &(name, limit, want) in &SURE_READS {
         let answer = files.read(rt.alloc(), name, limit);
         check(&rt, name, answers(answer, want));
     }
@@ -208,16 +212,17 @@ impl Print for Page {
     }
 }
 
+// How many bytes it takes at a time, what it is sent, the answer, and what it got.
+static PAGES: [(usize, &[u8], Result<(), SinkFault>, u64); 4] = [
+    (9, b"ab\n", Ok(()), 0x61_62_0a),
+    (1, b"ab\n", Ok(()), 0x61_62_0a),
+    (0, b"", Ok(()), 0),
+    (0, b"a", Err(SinkFault::Failed), 0),
+];
+
 #[test]
 fn the_standard_output_gets_all_once(rt: HostRuntime) {
-    // How many bytes it takes at a time, what it is sent, the answer, and what it got.
-    let cases: [(usize, &[u8], Result<(), SinkFault>, u64); 4] = [
-        (9, b"ab\n", Ok(()), 0x61_62_0a),
-        (1, b"ab\n", Ok(()), 0x61_62_0a),
-        (0, b"", Ok(()), 0),
-        (0, b"a", Err(SinkFault::Failed), 0),
-    ];
-    for (step, bytes, want, got) in cases {
+    for &(step, bytes, want, got) in &PAGES {
         let page = Page {
             step,
             got: Cell::new(0),

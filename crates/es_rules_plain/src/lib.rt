@@ -2,7 +2,5 @@
 #![tactic(auto)]
 
 mod no_debugger;
-#[cfg(test)]
-mod tests;
 
 pub use no_debugger::NoDebugger;

@@ -46,33 +46,37 @@ fn lists_and_texts(rt: HostRuntime) -> Result<(), Fail> {
     Ok(())
 }
 
+const LINES: &[u8] = b"ab\ncd\r\nef\rgh";
+
+const WIDE: &[u8] = b"\x22\xff\xf0\x9f\x98\x80\x22; debugger\n";
+
+const SEPARATORS: &[u8] = b"a\xe2\x80\xa8b\xe2\x80\xa9c";
+
+static PLACES: [(&[u8], u32, &str); 19] = [
+    (LINES, 0, "1:1"),
+    (LINES, 2, "1:3"),
+    (LINES, 3, "2:1"),
+    (LINES, 5, "2:3"),
+    (LINES, 6, "2:4"),
+    (LINES, 7, "3:1"),
+    (LINES, 9, "3:3"),
+    (LINES, 10, "4:1"),
+    (LINES, 12, "4:3"),
+    (b"a\n", 2, "2:1"),
+    (b"", 0, "1:1"),
+    (b"\0\t\tx", 3, "1:4"),
+    (WIDE, 4, "1:3"),
+    (WIDE, 5, "inside a character"),
+    (WIDE, 8, "1:5"),
+    (WIDE, 11, "1:8"),
+    (WIDE, 20, "2:1"),
+    (SEPARATORS, 4, "2:1"),
+    (SEPARATORS, 8, "3:1"),
+];
+
 #[test]
 fn places(rt: HostRuntime) -> Result<(), Fail> {
-    let lines: &[u8] = b"ab\ncd\r\nef\rgh";
-    let wide: &[u8] = b"\x22\xff\xf0\x9f\x98\x80\x22; debugger\n";
-    let separators: &[u8] = b"a\xe2\x80\xa8b\xe2\x80\xa9c";
-    let cases = [
-        (lines, 0, "1:1"),
-        (lines, 2, "1:3"),
-        (lines, 3, "2:1"),
-        (lines, 5, "2:3"),
-        (lines, 6, "2:4"),
-        (lines, 7, "3:1"),
-        (lines, 9, "3:3"),
-        (lines, 10, "4:1"),
-        (lines, 12, "4:3"),
-        (b"a\n", 2, "2:1"),
-        (b"", 0, "1:1"),
-        (b"\0\t\tx", 3, "1:4"),
-        (wide, 4, "1:3"),
-        (wide, 5, "inside a character"),
-        (wide, 8, "1:5"),
-        (wide, 11, "1:8"),
-        (wide, 20, "2:1"),
-        (separators, 4, "2:1"),
-        (separators, 8, "3:1"),
-    ];
-    for (bytes, at, want) in cases {
+    for &(bytes, at, want) in &PLACES {
         let source = Source::new(rt.alloc(), bytes)?;
         let place = place_at(rt.alloc(), &source, at)?;
         assert_eq!(rt; place.as_str(), want, "at {at}");
@@ -80,25 +84,25 @@ fn places(rt: HostRuntime) -> Result<(), Fail> {
     Ok(())
 }
 
+static UNITS: [(&[u8], u32, Option<u32>); 13] = [
+    (b"", 0, Some(0)),
+    (b"ab\r\ncd", 0, Some(0)),
+    (b"ab\r\ncd", 4, Some(4)),
+    (b"ab\r\ncd", 6, Some(6)),
+    (b"\xef\xbb\xbfa\xf0\x9f\x98\x80", 0, Some(0)),
+    (b"\xef\xbb\xbfa\xf0\x9f\x98\x80", 1, Some(1)),
+    (b"\xef\xbb\xbfa\xf0\x9f\x98\x80", 5, Some(3)),
+    (b"\xc3\xa9\xe2\x80\xa8\xe2\x82\xac", 2, Some(1)),
+    (b"\xc3\xa9\xe2\x80\xa8\xe2\x82\xac", 8, Some(3)),
+    (WIDE, 4, Some(2)),
+    (WIDE, 5, None),
+    (WIDE, 8, Some(4)),
+    (WIDE, 20, Some(16)),
+];
+
 #[test]
 fn units(rt: HostRuntime) -> Result<(), Fail> {
-    let wide: &[u8] = b"\x22\xff\xf0\x9f\x98\x80\x22; debugger\n";
-    let cases: [(&[u8], u32, Option<u32>); 13] = [
-        (b"", 0, Some(0)),
-        (b"ab\r\ncd", 0, Some(0)),
-        (b"ab\r\ncd", 4, Some(4)),
-        (b"ab\r\ncd", 6, Some(6)),
-        (b"\xef\xbb\xbfa\xf0\x9f\x98\x80", 0, Some(0)),
-        (b"\xef\xbb\xbfa\xf0\x9f\x98\x80", 1, Some(1)),
-        (b"\xef\xbb\xbfa\xf0\x9f\x98\x80", 5, Some(3)),
-        (b"\xc3\xa9\xe2\x80\xa8\xe2\x82\xac", 2, Some(1)),
-        (b"\xc3\xa9\xe2\x80\xa8\xe2\x82\xac", 8, Some(3)),
-        (wide, 4, Some(2)),
-        (wide, 5, None),
-        (wide, 8, Some(4)),
-        (wide, 20, Some(16)),
-    ];
-    for (bytes, at, want) in cases {
+    for &(bytes, at, want) in &UNITS {
         let source = Source::new(rt.alloc(), bytes)?;
         assert_eq!(rt; units_at(&source, at), want, "at {at}");
     }
@@ -128,15 +132,16 @@ fn long_lines(rt: HostRuntime) -> Result<(), Fail> {
     Ok(())
 }
 
+static TEXTS: [(&[u8], &str, bool); 4] = [
+    (b"\xef\xbb\xbfvar a;", "var a;", true),
+    (b"\xef\xbb\xbf\xef\xbb\xbf", "\u{feff}", true),
+    (b"\0\tx", "\0\tx", false),
+    (b"\xff", "\u{fffd}", false),
+];
+
 #[test]
 fn texts(rt: HostRuntime) -> Result<(), Fail> {
-    let cases: [(&[u8], &str, bool); 4] = [
-        (b"\xef\xbb\xbfvar a;", "var a;", true),
-        (b"\xef\xbb\xbf\xef\xbb\xbf", "\u{feff}", true),
-        (b"\0\tx", "\0\tx", false),
-        (b"\xff", "\u{fffd}", false),
-    ];
-    for (bytes, text, marked) in cases {
+    for &(bytes, text, marked) in &TEXTS {
         let source = Source::new(rt.alloc(), bytes)?;
         assert_eq!(rt; source.text(), text);
         assert_eq!(rt; source.marked(), marked);
@@ -158,6 +163,31 @@ fn lengths(rt: HostRuntime) -> Result<(), Fail> {
     Ok(())
 }
 
+static DECODED: [(&[u8], &str); 22] = [
+    (b"\xc3\xa9", "\u{e9}"),
+    (b"\xc0\x80", "\u{fffd}\u{fffd}"),
+    (b"\xc1\xbf", "\u{fffd}\u{fffd}"),
+    (b"\xc3A", "\u{fffd}A"),
+    (b"\x80\xbf", "\u{fffd}\u{fffd}"),
+    (b"\xff\xfe", "\u{fffd}\u{fffd}"),
+    (b"\xe2\x82", "\u{fffd}"),
+    (b"\xe2\x82\xac", "\u{20ac}"),
+    (b"\xe2(\xa1", "\u{fffd}(\u{fffd}"),
+    (b"\xe0\x80\x80", "\u{fffd}\u{fffd}\u{fffd}"),
+    (b"\xed\xa0\x80", "\u{fffd}\u{fffd}\u{fffd}"),
+    (b"\xed\x9f\xbf", "\u{d7ff}"),
+    (b"\xf0\x9f\x98", "\u{fffd}"),
+    (b"\xf0\x9f\x98\x80", "\u{1f600}"),
+    (b"\xf0\x9fA", "\u{fffd}A"),
+    (b"\xf0\x80\x80\x80", "\u{fffd}\u{fffd}\u{fffd}\u{fffd}"),
+    (b"\xf4\x8f\xbf\xbf", "\u{10ffff}"),
+    (b"\xf4\x90\x80\x80", "\u{fffd}\u{fffd}\u{fffd}\u{fffd}"),
+    (b"\xf5\x80", "\u{fffd}\u{fffd}"),
+    (b"\xe2\x82\xe2\x82\xac", "\u{fffd}\u{20ac}"),
+    (b"\xef\xbb", "\u{fffd}"),
+    (b"\xef\xbb\xbf\xef\xbb", "\u{fffd}"),
+];
+
 /// The values are those of Python's `bytes.decode('utf-8', 'replace')`, without a leading mark.
 #[test]
 fn bytes_that_are_no_utf8(rt: HostRuntime) -> Result<(), Fail> {
@@ -167,31 +197,7 @@ fn bytes_that_are_no_utf8(rt: HostRuntime) -> Result<(), Fail> {
         assert_eq!(rt; source.text().chars().next(), Some(want));
         assert_eq!(rt; source.text().len(), want.len_utf8());
     }
-    let cases: [(&[u8], &str); 22] = [
-        (b"\xc3\xa9", "\u{e9}"),
-        (b"\xc0\x80", "\u{fffd}\u{fffd}"),
-        (b"\xc1\xbf", "\u{fffd}\u{fffd}"),
-        (b"\xc3A", "\u{fffd}A"),
-        (b"\x80\xbf", "\u{fffd}\u{fffd}"),
-        (b"\xff\xfe", "\u{fffd}\u{fffd}"),
-        (b"\xe2\x82", "\u{fffd}"),
-        (b"\xe2\x82\xac", "\u{20ac}"),
-        (b"\xe2(\xa1", "\u{fffd}(\u{fffd}"),
-        (b"\xe0\x80\x80", "\u{fffd}\u{fffd}\u{fffd}"),
-        (b"\xed\xa0\x80", "\u{fffd}\u{fffd}\u{fffd}"),
-        (b"\xed\x9f\xbf", "\u{d7ff}"),
-        (b"\xf0\x9f\x98", "\u{fffd}"),
-        (b"\xf0\x9f\x98\x80", "\u{1f600}"),
-        (b"\xf0\x9fA", "\u{fffd}A"),
-        (b"\xf0\x80\x80\x80", "\u{fffd}\u{fffd}\u{fffd}\u{fffd}"),
-        (b"\xf4\x8f\xbf\xbf", "\u{10ffff}"),
-        (b"\xf4\x90\x80\x80", "\u{fffd}\u{fffd}\u{fffd}\u{fffd}"),
-        (b"\xf5\x80", "\u{fffd}\u{fffd}"),
-        (b"\xe2\x82\xe2\x82\xac", "\u{fffd}\u{20ac}"),
-        (b"\xef\xbb", "\u{fffd}"),
-        (b"\xef\xbb\xbf\xef\xbb", "\u{fffd}"),
-    ];
-    for (bytes, text) in cases {
+    for &(bytes, text) in &DECODED {
         let source = Source::new(rt.alloc(), bytes)?;
         assert_eq!(rt; source.text(), text);
     }

@@ -24,6 +24,27 @@ fn name_alone(alloc: Global, name: &str) -> Result<Vec<String>, Fail> {
     Ok(arguments)
 }
 
+/// What a run over the file of this name answers. A run needs a kit: without one none is made.
+fn status_of<O: Sink, E: Sink>(
+    alloc: Global,
+    kits: &mut Vec<Kit<Box<dyn Rule + Send>>>,
+    files: &mut MemoryFiles,
+    name: &str,
+    out: &mut O,
+    err: &mut E,
+) -> Result<Status, Fail> {
+    let arguments = name_alone(alloc, name)?;
+    if kits.is_empty() {
+        return Ok(Status::NoMemory);
+    }
+    Ok(run(alloc, arguments.as_slice(), kits, files, out, err))
+}
+
+/// How often the first kit listened.
+fn lints_of(kits: &[Kit<Box<dyn Rule + Send>>]) -> u64 {
+    kits.first().map_or(0, |kit| kit.lints())
+}
+
 /// Runs the rules over the file of this name. The output takes the first `left` bytes of its first
 /// call, which then fails.
 fn run_over(
@@ -33,7 +54,6 @@ fn run_over(
     name: &str,
     left: Option<u64>,
 ) -> Result<Ran, Fail> {
-    let arguments = name_alone(alloc, name)?;
     let mut kits = Vec::new(alloc);
     kits.push(Kit::new(rules))?;
     let mut out = MemorySink::new(alloc)?;
@@ -41,15 +61,8 @@ fn run_over(
     if let Some(left) = left {
         out.fail(alloc, 1, left)?;
     }
-    let status = run(
-        alloc,
-        arguments.as_slice(),
-        &mut kits,
-        files,
-        &mut out,
-        &mut err,
-    );
-    let lints = kits[0].lints();
+    let status = status_of(alloc, &mut kits, files, name, &mut out, &mut err)?;
+    let lints = lints_of(&kits);
     Ok(Ran {
         status,
         out,
@@ -88,7 +101,7 @@ struct Case {
 }
 
 // The places are counted by hand. A text that isn't parsed has one message, whatever stands before.
-static CASES: [Case; 5] = [
+static CASES: [Case; 6] = [
     Case {
         name: "a.js",
         text: "a()\n",
@@ -103,6 +116,18 @@ a.js
   1:2  error  Unexpected 'debugger' statement.  no-debugger
 
 ✖ 1 problem (1 error, 0 warnings)
+",
+        heard: true,
+    },
+    Case {
+        name: "a.js",
+        text: "{ debugger; ; } debugger;",
+        report: "
+a.js
+  1:3   error  Unexpected 'debugger' statement.  no-debugger
+  1:17  error  Unexpected 'debugger' statement.  no-debugger
+
+✖ 2 problems (2 errors, 0 warnings)
 ",
         heard: true,
     },
@@ -154,11 +179,7 @@ fn reports(rt: HostRuntime) -> Result<(), Fail> {
     Ok(())
 }
 
-/// Two rules, the first of which says the place of each empty statement, the second that of each
-/// name. The columns are as wide as their widest text.
-#[test]
-fn reports_of_two_rules_stand_by_their_places(rt: HostRuntime) -> Result<(), Fail> {
-    let report = "
+static TWO_RULES: &str = "
 é.js
   1:1   error  name   name
   1:3   error  empty  empty
@@ -166,13 +187,18 @@ fn reports_of_two_rules_stand_by_their_places(rt: HostRuntime) -> Result<(), Fai
 
 ✖ 3 problems (3 errors, 0 warnings)
 ";
+
+/// Two rules, the first of which says the place of each empty statement, the second that of each
+/// name. The columns are as wide as their widest text.
+#[test]
+fn reports_of_two_rules_stand_by_their_places(rt: HostRuntime) -> Result<(), Fail> {
     let alloc = rt.alloc();
     let mut rules: Vec<Box<dyn Rule + Send>> = Vec::new(alloc);
     rules.push(Box::new(alloc, Watch::new(alloc, "empty", false, 0)?)?)?;
     rules.push(Box::new(alloc, Watch::new(alloc, "name", true, 0)?)?)?;
     let mut files = files_of(alloc, "é.js", "a;;\n\n\n\n\n\n\n\n\n b")?;
     let ran = run_over(alloc, rules, &mut files, "é.js", None)?;
-    expect(&rt, &ran, 1, report, "");
+    expect(&rt, &ran, 1, TWO_RULES, "");
     Ok(())
 }
 
@@ -185,14 +211,12 @@ fn a_kit_listens_again(rt: HostRuntime) -> Result<(), Fail> {
     let mut kits = Vec::new(alloc);
     kits.push(Kit::new(rules))?;
     let mut files = files_of(alloc, "a.js", "a;\n")?;
-    let arguments = name_alone(alloc, "a.js")?;
     let (mut out, mut err) = (SureSink::new(alloc)?, SureSink::new(alloc)?);
-    let words = arguments.as_slice();
-    let first = run(alloc, words, &mut kits, &mut files, &mut out, &mut err);
-    let second = run(alloc, words, &mut kits, &mut files, &mut out, &mut err);
+    let first = status_of(alloc, &mut kits, &mut files, "a.js", &mut out, &mut err)?;
+    let second = status_of(alloc, &mut kits, &mut files, "a.js", &mut out, &mut err)?;
     assert_eq!(rt; status_code(&first), 3);
     assert_eq!(rt; status_code(&second), 1);
-    assert_eq!(rt; kits[0].lints(), 2);
+    assert_eq!(rt; lints_of(&kits), 2);
     Ok(())
 }
 
@@ -257,16 +281,15 @@ fn a_run_tells_that_it_is_out_of_memory(rt: HostRuntime) -> Result<(), Fail> {
     let mut files = files_of(rt.alloc(), "a.js", "a;\n")?;
     let mut kits = Vec::new(rt.alloc());
     kits.push(Kit::new(plain_rules(rt.alloc())?))?;
-    let arguments = name_alone(rt.alloc(), "a.js")?;
     let (mut out, mut err) = (Poor, MemorySink::new(rt.alloc())?);
-    let status = run(
+    let status = status_of(
         rt.alloc(),
-        arguments.as_slice(),
         &mut kits,
         &mut files,
+        "a.js",
         &mut out,
         &mut err,
-    );
+    )?;
     assert_eq!(rt; status_code(&status), 3);
     assert_eq!(rt; err.got(), b"esl: no memory\n".as_slice());
     Ok(())
