@@ -1,0 +1,10 @@
+pub mod Completions
+pub mod Controls
+pub mod Runs
+pub mod Shapes
+pub mod Pendings
+pub mod Steps
+pub mod Built
+pub mod Copies
+pub mod Numbers
+pub mod Exact
