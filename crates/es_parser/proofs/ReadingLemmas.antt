@@ -502,7 +502,7 @@ pub symbol_below : {p : Part} {s : Symbol} {change : Change} {field : Option Fie
 unfolding is_below
 symbol_below {p} {s} {change} {field} rank is below = ltb-true (rank_of s) rank (subst (λ p. IsTrue (is_below rank p)) is below)
 
--- a part that reads a token, and another one is next
+-- a part that has a token, and another one is next
 pub other_token : (text : List ℕ) (spot : Spot) (draft : Draft) (p : Part) (terminal : Terminal) → Some terminal ≡ terminal_of p →
     terminal_at text spot.context terminal spot.at ≡ None → ReadsPart text p spot draft Not
 unfolding plainly
@@ -517,7 +517,10 @@ other_token text spot draft (part.Leaf own kind field) terminal is none =
     let same : terminal ≡ own = (cc) in
     plain (ap (λ found. Some (if_token (λ found. Read (with_child (with_token draft found) (leaf_child text kind field found)) found.span.end) found))
     (subst (λ t. terminal_at text spot.context t spot.at ≡ None) same none))
-other_token text spot draft (part.Twin own kind field) terminal is none = absurd (cc)
+other_token text spot draft (part.Twin own kind field) terminal is none =
+    let same : terminal ≡ own = (cc) in
+    plain (ap (λ found. Some (if_token (λ found. Read (with_child draft (leaf_child text kind field found)) spot.at) found))
+    (subst (λ t. terminal_at text spot.context t spot.at ≡ None) same none))
 other_token text spot draft (part.Symbol s change field) terminal is none = absurd (cc)
 other_token text spot draft (part.Deeper s change field) terminal is none = absurd (cc)
 other_token text spot draft (part.Check condition) terminal is none = absurd (cc)

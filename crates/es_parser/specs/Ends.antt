@@ -1,6 +1,10 @@
 -- What the interpreter of the grammar needs to know of outcomes and parts.
 use Rattle.std.specs.Prelude.{ℕ, ◌≤◌, List, Bool, true, false, Option, Some, None}
+use Rattle.std.specs.Option.{option_and_then}
 use Rattle.std.specs.Str.{IsCharBoundary}
+use Rattle.es_text.specs.declared.token.Token.{Token}
+use Rattle.es_grammar.specs.declared.context.Spot.{Spot}
+use Rattle.es_grammar.specs.Terminals.{terminal_at}
 use Rattle.es_grammar.specs.declared.draft.Outcome.{Outcome}
 use Rattle.es_grammar.specs.declared.draft.Outcome.TheVariants.{Not, Deep, Read}
 use Rattle.es_grammar.specs.declared.part.Condition.{Condition}
@@ -27,12 +31,16 @@ is_plain (part.Symbol symbol change field) = false
 is_plain (part.Deeper symbol change field) = false
 is_plain other = true
 
--- the terminal of the token that the part reads
+-- the terminal of the token that the part reads or gives on
 abbrev pub terminal_of : Part → Option Terminal
 terminal_of (part.Token terminal) = Some terminal
 terminal_of (part.Words terminal field) = Some terminal
 terminal_of (part.Leaf terminal kind field) = Some terminal
+terminal_of (part.Twin terminal kind field) = Some terminal
 terminal_of other = None
+
+abbrev pub token_at : List ℕ → Spot → Part → Option Token
+token_at text spot p = option_and_then (λ terminal. terminal_at text spot.context terminal spot.at) (terminal_of p)
 
 -- the part only notes something
 abbrev pub is_note : Part → Bool

@@ -1,129 +1,76 @@
 //! The parts of rows that read no symbol.
-ghost use Rattle.std.specs.Prelude.{◌≡◌, Some, IfOk, IsTrue, List, ℕ};
+ghost use Rattle.std.specs.Prelude.{◌≡◌, Some, None, IfOk, IsTrue, List, ℕ};
 ghost use Rattle.std.specs.Str.{IsCharBoundary, chars};
 ghost use Rattle.es_grammar.specs.Drafts.{kind_setting, words as words_setting};
 ghost use Rattle.es_grammar.specs.Parts.{plainly, with_directives};
-ghost use Rattle.es_parser.specs.Ends.{EndsFrom, is_note, is_plain};
+ghost use Rattle.es_parser.specs.Ends.{EndsFrom, is_note, is_plain, terminal_of, token_at};
+ghost use Rattle.es_parser.specs.Kept.{IsWithin};
 
 use crate::conditions::holds;
 use crate::directives::with_directives;
 use crate::drafts::{add_child, add_setting, add_token};
 use crate::leaves::{flag, leaf_child, words};
 use crate::reader::Reader;
-use crate::terminals::terminal_at;
 use es_grammar::{
     Child, Condition, Draft, Field, MemberKind, Outcome, Part, Setting, Spot, Terminal,
 };
-use es_text::{NoMemory, Steps};
+use es_text::{NoMemory, Steps, Token};
 use std::alloc::Global;
 use std::sync::ledger::Ledger;
 
-#[tactic(auto, unfolding(es_grammar::specs::Parts::plainly))]
-fn read_token<L: Ledger>(
-    reader: &mut Reader,
-    spot: Spot,
-    terminal: Terminal,
-    draft: Draft,
-    steps: &mut Steps<L>,
-) -> Result<Outcome, NoMemory>
-    requires { IsCharBoundary reader.old spot.at }
-    ensures same { reader.new ≡ reader.old }
-    ensures outcome { IfOk result (λ o. plainly reader.old spot (Part.Token terminal) draft ≡ Some o) }
-    ensures ends { IfOk result (λ o. EndsFrom reader.old spot.at o) }
+/// The terminal of the token that the part reads or gives on.
+pub fn terminal_of(part: Part) -> Option<Terminal>
+    ensures { result ≡ terminal_of part }
 {
-    match terminal_at(reader, spot.context, terminal, spot.at, steps) {
-        Some(found) => {
-            let mut draft = draft;
-            add_token(&mut draft, found)?;
-            Ok(Outcome::Read(draft, found.span.end))
-        }
-        None => Ok(Outcome::Not),
+    match part {
+        Part::Token(terminal) => Some(terminal),
+        Part::Words(terminal, _) => Some(terminal),
+        Part::Leaf(terminal, _, _) => Some(terminal),
+        Part::Twin(terminal, _, _) => Some(terminal),
+        _ => None,
     }
 }
 
+/// What a part gives whose token this is, behind what was read before.
 #[tactic(auto, unfolding(es_grammar::specs::Parts::plainly))]
-fn read_words<L: Ledger>(
+pub fn of_token(
     alloc: Global,
-    reader: &mut Reader,
+    reader: &Reader,
     spot: Spot,
-    terminal: Terminal,
-    field: Field,
+    part: Part,
+    found: Token,
     draft: Draft,
-    steps: &mut Steps<L>,
 ) -> Result<Outcome, NoMemory>
-    requires { IsCharBoundary reader.old spot.at }
-    ensures same { reader.new ≡ reader.old }
-    ensures outcome { IfOk result (λ o. plainly reader.old spot (Part.Words terminal field) draft ≡ Some o) }
-    ensures ends { IfOk result (λ o. EndsFrom reader.old spot.at o) }
+    requires token { token_at reader.now spot part ≡ Some found }
+    requires within { IsWithin reader.now spot.at found }
+    requires boundary { IsCharBoundary reader.now spot.at }
+    ensures outcome { IfOk result (λ o. plainly reader.now spot part draft ≡ Some o) }
+    ensures ends { IfOk result (λ o. EndsFrom reader.now spot.at o) }
 {
-    match terminal_at(reader, spot.context, terminal, spot.at, steps) {
-        Some(found) => {
-            let mut draft = draft;
+    let mut draft = draft;
+    match part {
+        Part::Token(_) => {
+            add_token(&mut draft, found)?;
+            Ok(Outcome::Read(draft, found.span.end))
+        }
+        Part::Words(_, field) => {
             let setting = words(alloc, field, reader.text_of(found))?;
             add_token(&mut draft, found)?;
             add_setting(&mut draft, setting)?;
             Ok(Outcome::Read(draft, found.span.end))
         }
-        None => Ok(Outcome::Not),
-    }
-}
-
-/// A token as a node of a kind, for a field of the node around.
-#[derive(Clone, Copy)]
-struct Leaf {
-    terminal: Terminal,
-    kind: u16,
-    field: Option<Field>,
-}
-
-#[tactic(auto, unfolding(es_grammar::specs::Parts::plainly))]
-fn read_leaf<L: Ledger>(
-    alloc: Global,
-    reader: &mut Reader,
-    spot: Spot,
-    leaf: Leaf,
-    draft: Draft,
-    steps: &mut Steps<L>,
-) -> Result<Outcome, NoMemory>
-    requires { IsCharBoundary reader.old spot.at }
-    ensures same { reader.new ≡ reader.old }
-    ensures outcome { IfOk result (λ o. plainly reader.old spot (Part.Leaf leaf.terminal leaf.kind leaf.field) draft ≡ Some o) }
-    ensures ends { IfOk result (λ o. EndsFrom reader.old spot.at o) }
-{
-    match terminal_at(reader, spot.context, leaf.terminal, spot.at, steps) {
-        Some(found) => {
-            let mut draft = draft;
-            let child = leaf_child(alloc, reader, leaf.kind, leaf.field, found)?;
+        Part::Leaf(_, kind, field) => {
+            let child = leaf_child(alloc, reader, kind, field, found)?;
             add_token(&mut draft, found)?;
             add_child(&mut draft, child)?;
             Ok(Outcome::Read(draft, found.span.end))
         }
-        None => Ok(Outcome::Not),
-    }
-}
-
-#[tactic(auto, unfolding(es_grammar::specs::Parts::plainly))]
-fn give_twin<L: Ledger>(
-    alloc: Global,
-    reader: &mut Reader,
-    spot: Spot,
-    leaf: Leaf,
-    draft: Draft,
-    steps: &mut Steps<L>,
-) -> Result<Outcome, NoMemory>
-    requires { IsCharBoundary reader.old spot.at }
-    ensures same { reader.new ≡ reader.old }
-    ensures outcome { IfOk result (λ o. plainly reader.old spot (Part.Twin leaf.terminal leaf.kind leaf.field) draft ≡ Some o) }
-    ensures ends { IfOk result (λ o. EndsFrom reader.old spot.at o) }
-{
-    match terminal_at(reader, spot.context, leaf.terminal, spot.at, steps) {
-        Some(found) => {
-            let mut draft = draft;
-            let child = leaf_child(alloc, reader, leaf.kind, leaf.field, found)?;
+        Part::Twin(_, kind, field) => {
+            let child = leaf_child(alloc, reader, kind, field, found)?;
             add_child(&mut draft, child)?;
             Ok(Outcome::Read(draft, spot.at))
         }
-        None => Ok(Outcome::Not),
+        _ => unreachable!(),
     }
 }
 
@@ -203,7 +150,7 @@ fn check_condition<L: Ledger>(
     }
 }
 
-/// What a part gives that reads no symbol.
+/// What a part gives that has neither a symbol nor a token.
 pub fn plain<L: Ledger>(
     alloc: Global,
     reader: &mut Reader,
@@ -213,46 +160,16 @@ pub fn plain<L: Ledger>(
     steps: &mut Steps<L>,
 ) -> Result<Outcome, NoMemory>
     requires plain { IsTrue (is_plain part) }
+    requires bare { terminal_of part ≡ None }
     requires boundary { IsCharBoundary reader.old spot.at }
     ensures same { reader.new ≡ reader.old }
     ensures outcome { IfOk result (λ o. plainly reader.old spot part draft ≡ Some o) }
     ensures ends { IfOk result (λ o. EndsFrom reader.old spot.at o) }
 {
     match part {
-        Part::Token(terminal) => read_token(reader, spot, terminal, draft, steps),
-        Part::Words(terminal, field) => {
-            read_words(alloc, reader, spot, terminal, field, draft, steps)
-        }
-        Part::Leaf(terminal, kind, field) => {
-            read_leaf(
-                alloc,
-                reader,
-                spot,
-                Leaf {
-                    terminal,
-                    kind,
-                    field,
-                },
-                draft,
-                steps,
-            )
-        }
-        Part::Twin(terminal, kind, field) => {
-            give_twin(
-                alloc,
-                reader,
-                spot,
-                Leaf {
-                    terminal,
-                    kind,
-                    field,
-                },
-                draft,
-                steps,
-            )
-        }
         Part::Check(condition) => Ok(check_condition(reader, spot, condition, draft, steps)),
         Part::Symbol(..) | Part::Deeper(..) => unreachable!(),
+        Part::Token(..) | Part::Words(..) | Part::Leaf(..) | Part::Twin(..) => unreachable!(),
         note => Ok(Outcome::Read(noted(alloc, spot, note, draft)?, spot.at)),
     }
 }

@@ -2,22 +2,19 @@
 //! outcome, which is large: so its calls take little of the stack.
 ghost use Rattle.std.specs.Prelude.{◌≡◌, Ok, IfOk, IsTrue};
 ghost use Rattle.es_parser.specs.declared.reached.Reached.{Reached as ReachedOf};
-ghost use Rattle.std.specs.Bool.{OnTrue};
 ghost use Rattle.std.specs.Str.{IsCharBoundary};
-ghost use Rattle.es_grammar.specs.declared.draft.Draft.{Draft as DraftOf};
-ghost use Rattle.es_grammar.specs.declared.draft.Outcome.TheVariants.{Not};
 ghost use Rattle.es_grammar.specs.Drafts.{empty};
 ghost use Rattle.es_grammar.specs.Parts.{after, finish};
 ghost use Rattle.es_grammar.specs.Reading.{ReadsPart};
-ghost use Rattle.es_parser.specs.Ends.{EndsFrom, is_plain, terminal_of};
+ghost use Rattle.es_parser.specs.Ends.{EndsFrom, is_plain};
 ghost use Rattle.es_parser.specs.Turns.{outcome_of, turn_of};
 
 use crate::drafts::{extend, join, nothing};
 use crate::nodes::finish;
-use crate::parts::plain;
+use crate::parts::{of_token, plain, terminal_of};
 use crate::reader::Reader;
 use crate::terminals::terminal_at;
-use es_grammar::{Draft, Field, Outcome, Part, Product, Spot, Terminal};
+use es_grammar::{Draft, Field, Outcome, Part, Product, Spot};
 use es_text::{NoMemory, Steps};
 use std::alloc::Global;
 use std::mem;
@@ -93,38 +90,6 @@ pub fn extended(
     Ok(settle(draft, outcome))
 }
 
-/// The terminal of the token that the part reads.
-fn terminal_of(part: Part) -> Option<Terminal>
-    ensures { result ≡ terminal_of part }
-{
-    match part {
-        Part::Token(terminal) => Some(terminal),
-        Part::Words(terminal, _) => Some(terminal),
-        Part::Leaf(terminal, _, _) => Some(terminal),
-        _ => None,
-    }
-}
-
-/// Whether the part reads a token, and another one is next. Most rows are left so, at their first part.
-fn is_other_token<L: Ledger>(
-    reader: &mut Reader,
-    spot: Spot,
-    part: Part,
-    steps: &mut Steps<L>,
-) -> bool
-    requires boundary { IsCharBoundary reader.old spot.at }
-    ensures same { reader.new ≡ reader.old }
-    ensures not { OnTrue result ((draft : DraftOf) → ReadsPart reader.old part spot draft Not) }
-{
-    match terminal_of(part) {
-        Some(terminal) => match terminal_at(reader, spot.context, terminal, spot.at, steps) {
-            Some(_) => false,
-            None => true,
-        },
-        None => false,
-    }
-}
-
 /// What a part gives that reads no symbol, behind what was read before it.
 #[inline(never)]
 pub fn read_plain<L: Ledger>(
@@ -143,11 +108,17 @@ pub fn read_plain<L: Ledger>(
     ensures ends { IfOk result
         (λ r. EndsFrom reader.old spot.at (outcome_of r draft.new)) }
 {
-    if is_other_token(reader, spot, part, steps) {
+    let Some(terminal) = terminal_of(part) else {
+        let before = mem::replace(draft, nothing(alloc));
+        let outcome = plain(alloc, reader, spot, part, before, steps)?;
+        return Ok(settle(draft, outcome));
+    };
+    // Most rows are left here, at their first part.
+    let Some(found) = terminal_at(reader, spot.context, terminal, spot.at, steps) else {
         return Ok(Reached::Nothing);
-    }
+    };
     let before = mem::replace(draft, nothing(alloc));
-    let outcome = plain(alloc, reader, spot, part, before, steps)?;
+    let outcome = of_token(alloc, reader, spot, part, found, before)?;
     Ok(settle(draft, outcome))
 }
 

@@ -1,14 +1,21 @@
-use Rattle.std.proofs.Common.{subst}
+use Rattle.std.proofs.Common.{◌∙◌, List, ℕ, subst, sym}
 use Rattle.es_grammar.specs.Reading.{ReadsPart}
 use Rattle.es_parser.specs.Turns.{outcome_of}
-use Rattle.es_parser.proofs.ReadingLemmas.{plain_read}
+use Rattle.es_parser.proofs.ReadingLemmas.{other_token, plain_read}
 use Rattle.es_parser.proofs.reached.read_plain.Goals as goal
 
-pub returns-then-is_other_token-clause-reads : goal.returns-then-is_other_token-clause-reads
-returns-then-is_other_token-clause-reads g c = c.if-is_other_token.ensures.not c.args.draft.now
+pub returns-in_default-clause-reads : goal.returns-in_default-clause-reads
+returns-in_default-clause-reads g c =
+    plain_read c.args.reader.now c.args.spot c.args.part c.replace-before.result c.args.draft.now (outcome_of c.settle.result c.settle.new.draft)
+    c.in_ok-outcome.outcome (cc) c.in_ok-outcome.ensures.outcome (cc)
+
+pub returns-in_default-terminal_at-clause-reads : goal.returns-in_default-terminal_at-clause-reads
+returns-in_default-terminal_at-clause-reads g c =
+    other_token c.args.reader.now c.args.spot c.args.draft.now c.args.part c.in-Some.terminal c.in-Some.ensures
+    (sym c.terminal_at.ensures.token ∙ c.in_default-terminal_at.is)
 
 pub returns-clause-reads : goal.returns-clause-reads
 returns-clause-reads g c =
-    subst (λ text. ReadsPart text c.args.part c.args.spot c.args.draft.now (outcome_of c.settle.result c.settle.new.draft)) c.is_other_token.ensures.same
-    (plain_read c.is_other_token.new.reader c.args.spot c.args.part c.replace-before.result c.args.draft.now (outcome_of c.settle.result c.settle.new.draft)
-    c.in_ok-outcome.outcome (cc) c.in_ok-outcome.ensures.outcome (cc))
+    subst (λ (text : List ℕ). ReadsPart text c.args.part c.args.spot c.args.draft.now (outcome_of c.settle-2.result c.settle-2.new.draft)) c.terminal_at.ensures.same
+    (plain_read c.terminal_at.new.reader c.args.spot c.args.part c.replace-before-2.result c.args.draft.now (outcome_of c.settle-2.result c.settle-2.new.draft)
+    c.in_ok-outcome-2.outcome (cc) c.in_ok-outcome-2.ensures.outcome (cc))
