@@ -1,0 +1,12 @@
+pub mod Chains
+pub mod Classes
+pub mod Founds
+pub mod KindAtoms
+pub mod Lexical
+pub mod Matches
+pub mod Places
+pub mod Refusals
+pub mod Selects
+pub mod Sights
+pub mod Spelling
+pub mod Told
