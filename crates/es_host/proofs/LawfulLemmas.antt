@@ -1,36 +1,32 @@
--- What a rule hears of one more node.
-use Rattle.std.proofs.Common.{◌≡◌, ◌∙◌, ℕ, zero, suc, ◌+◌, Bool, true, false, List, [], ◌∷◌, ◌++◌, map, cond, ap, arith}
-use Rattle.std.specs.List.{filter, range_with_len}
-use Rattle.std.proofs.lemmas.List.{append-nil, map-append}
-use Rattle.std.proofs.lemmas.List.Elements.{filter-append}
+-- What a rule hears of more moments.
+use Rattle.std.proofs.Common.{◌≡◌, ◌∙◌, ℕ, Bool, true, false, List, [], ◌∷◌, ◌++◌, ap, append-nil, refl}
+use Rattle.std.specs.Prelude.{◌&&◌, Option, Some, None, slice_get}
+use Rattle.std.specs.Option.{option_map_or}
+use Rattle.std.proofs.lemmas.Bool.{and_parts}
+use Rattle.std.proofs.lemmas.Grind.{flat_map-append}
 use Rattle.es_tree.specs.Rows.{Row}
-use Rattle.es_host.specs.Lawful.{entered, entries, hears}
+use Rattle.es_selectors.specs.declared.selector.Spelling.{Spelling}
+use Rattle.es_selectors.specs.Selects.{selects}
+use Rattle.es_host.specs.Lawful.{hears, hears_phase, is_asked, told, told_at}
+use Rattle.es_host.specs.Walk.{Moment}
 
-range_more : (a n : ℕ) → range_with_len a (suc n) ≡ range_with_len a n ++ (a + n) ∷ []
-range_more a zero = let e : a ≡ a + 0 = omega arith in ap (λ z. z ∷ []) e
-range_more a (suc n) =
-    let e : (a + 1) + n ≡ a + suc n = omega arith in
-    ap (λ z. a ∷ z) (range_more (a + 1) n ∙ ap (λ z. range_with_len (a + 1) n ++ z ∷ []) e)
+-- a selector that hears of a moment matches its node
+pub hears-asked : (rows : List Row) (interest : List Spelling) (moment : Moment) (which : ℕ) → hears rows interest moment which ≡ true
+    → is_asked rows interest moment.node which ≡ true
+hears-asked rows interest moment which = of_one (slice_get interest which)
+  where
+    of_one : (one : Option Spelling)
+        → option_map_or (λ selector. hears_phase selector moment.leaves && selects selector rows moment.node) one false ≡ true
+        → option_map_or (λ selector. selects selector rows moment.node) one false ≡ true
+    of_one None is = is
+    of_one (Some selector) is = (and_parts (hears_phase selector moment.leaves) (selects selector rows moment.node) is).1
 
-pub entries_more : (rows : List Row) (interest : List ℕ) (node : ℕ)
-    → entries rows interest (node + 1) ≡ entries rows interest node ++ map (entered rows) (filter (hears rows interest) (node ∷ []))
-entries_more rows interest node =
-    let one : node + 1 ≡ suc node = omega arith in
-    let here : 0 + node ≡ node = omega arith in
-    ap (λ n. entries rows interest n) one
-    ∙ ap (λ nodes. map (entered rows) (filter (hears rows interest) nodes)) (range_more 0 node ∙ ap (λ n. range_with_len 0 node ++ n ∷ []) here)
-    ∙ ap (map (entered rows)) (filter-append (hears rows interest) (range_with_len 0 node) (node ∷ []))
-    ∙ map-append (entered rows) (filter (hears rows interest) (range_with_len 0 node)) (filter (hears rows interest) (node ∷ []))
+pub told-more : (rows : List Row) (interest : List Spelling) (before after : List Moment)
+    → told rows interest (before ++ after) ≡ told rows interest before ++ told rows interest after
+told-more rows interest before after = flat_map-append (told_at rows interest) before after
 
-pub entries-heard : (rows : List Row) (interest : List ℕ) (node : ℕ) → hears rows interest node ≡ true
-    → entries rows interest (node + 1) ≡ entries rows interest node ++ entered rows node ∷ []
-entries-heard rows interest node heard =
-    entries_more rows interest node
-    ∙ ap (λ (b : Bool). entries rows interest node ++ map (entered rows) (cond b (node ∷ []) [])) heard
-
-pub entries-passed : (rows : List Row) (interest : List ℕ) (node : ℕ) → hears rows interest node ≡ false
-    → entries rows interest (node + 1) ≡ entries rows interest node
-entries-passed rows interest node passed =
-    entries_more rows interest node
-    ∙ ap (λ (b : Bool). entries rows interest node ++ map (entered rows) (cond b (node ∷ []) [])) passed
-    ∙ append-nil (entries rows interest node)
+pub told-one : (rows : List Row) (interest : List Spelling) (before : List Moment) (moment : Moment)
+    → told rows interest (before ++ moment ∷ []) ≡ told rows interest before ++ told_at rows interest moment
+told-one rows interest before moment =
+    told-more rows interest before (moment ∷ [])
+    ∙ ap (λ events. told rows interest before ++ events) (append-nil (told_at rows interest moment))

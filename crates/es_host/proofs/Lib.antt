@@ -1,5 +1,10 @@
-pub mod AncestorLemmas
-pub mod KitsLemmas
+pub mod ListsLemmas
+pub mod HearingLemmas
 pub mod LawfulLemmas
+pub mod ListenersLemmas
+pub mod MeaningsLemmas
+pub mod NodesLemmas
 pub mod ReportsLemmas
+pub mod SortingLemmas
 pub mod SpansLemmas
+pub mod WalkLemmas

@@ -1,52 +1,50 @@
--- Which events a rule hears of a file. The walk enters each node once, in the order of the numbers, and
--- a rule hears of the nodes whose kinds it asked for.
-use Rattle.std.specs.Prelude.{◌≡◌, ℕ, zero, suc, Bool, false, eqb, List, [], ◌∷◌, ◌++◌, length, map, Option, Some, None}
-use Rattle.std.specs.List.{filter, list_any, range_with_len}
+-- Which events a rule hears of a file.
+use Rattle.std.specs.Prelude.{◌≡◌, ℕ, Bool, false, not, ◌&&◌, List, [], ◌∷◌, length, if◌then◌else◌, slice_get}
+use Rattle.std.specs.List.{flat_map, range_with_len}
+use Rattle.std.specs.Option.{option_map_or}
 use Rattle.es_tree.specs.Rows.{Row}
-use Rattle.es_tree.specs.Rows.{kind_of, parent_of}
-use Rattle.es_host.specs.Events.{File, Event, Enter}
+use Rattle.es_selectors.specs.declared.selector.Spelling.{Spelling}
+use Rattle.es_selectors.specs.Selects.{selects}
+use Rattle.es_config.specs.Settings.{Options}
+use Rattle.es_host.specs.Files.{File, rows_in}
+use Rattle.es_host.specs.Meanings.{Event, Meaning}
+use Rattle.es_host.specs.Walk.{Moment, walk}
 
--- a node's ancestors by its parent, and by the ancestors that the parent has
-abbrev pub below_parent : (ℕ → List ℕ) → Option (Option ℕ) → List ℕ
-below_parent ancestors (Some (Some parent)) = ancestors parent ++ parent ∷ []
-below_parent ancestors (Some None) = []
-below_parent ancestors None = []
+-- the selector hears the moments of this phase: with `:exit` those at which a node is left, else the others
+abbrev pub hears_phase : Spelling → Bool → Bool
+hears_phase selector leaves = if selector.exit then leaves else not leaves
 
--- the ancestors that a node has within so many steps to a parent
-abbrev pub ancestors_within : ℕ → List Row → ℕ → List ℕ
-ancestors_within zero rows node = []
-ancestors_within (suc steps) rows node = below_parent (ancestors_within steps rows) (parent_of rows node)
+-- the selector at this index of the interest matches the node
+abbrev pub is_asked : List Row → List Spelling → ℕ → ℕ → Bool
+is_asked rows interest node which = option_map_or (λ selector. selects selector rows node) (slice_get interest which) false
 
--- the ancestors of a node, from the Program down to its parent: parents have smaller numbers, so that a
--- node has no more ancestors than its number says
-abbrev pub ancestors_of : List Row → ℕ → List ℕ
-ancestors_of rows node = ancestors_within node rows node
+-- it matches the node of the moment, and hears its phase
+abbrev pub hears : List Row → List Spelling → Moment → ℕ → Bool
+hears rows interest moment which =
+    option_map_or (λ selector. hears_phase selector moment.leaves && selects selector rows moment.node) (slice_get interest which) false
 
--- the node before a node, below its ancestors, and nothing before the Program
-abbrev pub path_before : List Row → ℕ → List ℕ
-path_before rows zero = []
-path_before rows (suc node) = ancestors_of rows node ++ node ∷ []
+abbrev pub event_of : Moment → ℕ → Event
+event_of moment which = record { node = moment.node; which = which; ancestors = moment.ancestors }
 
--- the kind is one of these
-abbrev pub is_one_of : List ℕ → Option ℕ → Bool
-is_one_of kinds None = false
-is_one_of kinds (Some kind) = list_any (λ k. eqb k kind) kinds
+-- what the selector at this index tells of the moment
+abbrev pub told_of : List Row → List Spelling → Moment → ℕ → List Event
+told_of rows interest moment which = if hears rows interest moment which then event_of moment which ∷ [] else []
 
--- a rule that asks for these kinds hears of the node
-abbrev pub hears : List Row → List ℕ → ℕ → Bool
-hears rows interest node = is_one_of interest (kind_of rows node)
+-- one event for each selector of the interest, in its order, that matches and hears the phase, and no other
+abbrev pub told_at : List Row → List Spelling → Moment → List Event
+told_at rows interest moment = flat_map (told_of rows interest moment) (range_with_len 0 (length interest))
 
-abbrev pub entered : List Row → ℕ → Event
-entered rows node = Enter node (ancestors_of rows node)
-
--- what a rule that asks for these kinds hears of the first `count` nodes
-abbrev pub entries : List Row → List ℕ → ℕ → List Event
-entries rows interest count = map (entered rows) (filter (hears rows interest) (range_with_len 0 count))
+-- what a rule of this interest hears of these moments
+abbrev pub told : List Row → List Spelling → List Moment → List Event
+told rows interest moments = flat_map (told_at rows interest) moments
 
 -- the events are those that a rule of this interest hears of the file
-abbrev pub Lawful : File → List ℕ → List Event → Type 0
-Lawful file interest events = events ≡ entries file.rows interest (length file.rows)
+abbrev pub Lawful : File → List Spelling → List Event → Type 0
+Lawful file interest events = events ≡ told (rows_in file) interest (walk (rows_in file))
 
--- all that a rule of this interest hears of the file was heard
-abbrev pub HeardAll : File → List ℕ → (List Event → Type 0) → Type 0
-HeardAll file interest heard = (events : List Event) × Lawful file interest events × heard events
+-- all that a rule of this meaning hears of the file was heard, under some options
+pub record HeardAll (file : File) (meaning : Meaning) (heard : Options → List Event → Type 0) : Type 0 where
+  pub options : Options
+  pub events : List Event
+  pub lawful : Lawful file (meaning.interest options) events
+  pub heard_them : heard options events

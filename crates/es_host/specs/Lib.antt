@@ -1,5 +1,11 @@
-pub mod Events
+pub mod Files
+pub mod Hearing
 pub mod Kits
 pub mod Lawful
+pub mod Listeners
+pub mod Meanings
+pub mod Nodes
 pub mod Reports
+pub mod Sorting
 pub mod Spans
+pub mod Walk

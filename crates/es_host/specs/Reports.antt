@@ -1,33 +1,35 @@
 -- The reports of the rules of a kit.
-use Rattle.std.specs.Prelude.{ℕ, ◌+◌, false, List, [], ◌∷◌, ◌++◌, map, Some}
+use Rattle.std.specs.Prelude.{ℕ, false, List, [], length, map, Option, Some, None}
+use Rattle.std.specs.List.{flat_map, range_with_len}
 use Rattle.es_text.specs.declared.finding.Finding.{Finding}
 use Rattle.es_text.specs.declared.finding.Report.{Report}
-use Rattle.es_text.specs.declared.finding.Severity.TheVariants.{Error}
-use Rattle.es_host.specs.Events.{File}
-use Rattle.es_host.specs.Kits.{KitOf}
+use Rattle.es_text.specs.declared.finding.Severity.{Severity}
+use Rattle.es_host.specs.Files.{File}
+use Rattle.es_host.specs.Meanings.{Meaning, meaning_at, options_at, setting_at}
 
 -- the report of a finding by the rule of this id, which stands at this place of its kit
-abbrev pub report_of : List ℕ → ℕ → Finding → Report
-report_of id place finding = record {
+abbrev pub report_of : List ℕ → ℕ → Severity → Finding → Report
+report_of id place severity finding = record {
   rule = Some id;
   order = place;
-  severity = Error;
+  severity = severity;
   text = finding.text;
   span = finding.span;
   fix = finding.fix;
   fatal = false;
 }
 
-module _ {R : Type 0} (id : R → List ℕ) (says : R → List Finding) where
-  -- the reports of rules, the first of which stands at this place of the kit
-  abbrev pub reports_from : ℕ → List R → List Report
-  reports_from place [] = []
-  reports_from place (rule ∷ rules) = map (report_of (id rule) place) (says rule) ++ reports_from (place + 1) rules
+-- a rule that is off says nothing
+abbrev pub said_at : List ℕ → ℕ → Option Severity → List Finding → List Report
+said_at id place None findings = []
+said_at id place (Some severity) findings = map (report_of id place severity) findings
 
-  -- the reports of a kit's rules, rule by rule in the kit's order
-  abbrev pub reports_of : List R → List Report
-  reports_of rules = reports_from 0 rules
+-- what the rule at this place says of the file
+abbrev pub reports_at : List Meaning → File → ℕ → List Report
+reports_at meanings file place =
+    said_at (meaning_at meanings place).id place (setting_at file place).severity
+    ((meaning_at meanings place).says file (options_at file place))
 
 -- what a kit says of a file: the reports of its rules, rule by rule in its order
-abbrev pub kit_says : {R : Type 0} → (R → List ℕ) → (R → File → List Finding) → KitOf R → File → List Report
-kit_says id says kit file = reports_of id (λ rule. says rule file) kit.rules
+abbrev pub kit_says : List Meaning → File → List Report
+kit_says meanings file = flat_map (reports_at meanings file) (range_with_len 0 (length meanings))

@@ -1,13 +1,21 @@
-//! Rules over finished trees, kits of them, and the one walk that all rules of a kit hear.
+//! Rules over files, kits of them, and the one walk that all rules of a kit hear.
 #![tactic(auto)]
 
-mod ctx;
+mod begin;
+mod file;
+mod files;
 mod kit;
+mod listeners;
+mod nodes;
+mod order;
+mod report;
 mod rule;
-mod spans;
 mod walk;
+mod words;
 
-pub use ctx::Ctx;
+pub use file::{Ctx, FileView};
+pub use files::{EachFile, FileRule};
 pub use kit::{Kit, listen};
+pub use nodes::{EachNode, NodeRule};
 pub use rule::Rule;
-pub use spans::spans_fit;
+pub use words::{no_options, of_kind, of_kinds, plain};

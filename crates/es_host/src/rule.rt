@@ -1,75 +1,77 @@
-ghost use Rattle.std.specs.Prelude.{ℕ, ◌≡◌, ◌<◌, eqb, List, [], ◌∷◌, ◌++◌, length, IfOk, OnOk, IsTrue};
-ghost use Rattle.std.specs.List.{All, IsDistinct};
+ghost use Rattle.std.specs.Prelude.{ℕ, ◌≡◌, ◌<◌, List, [], ◌∷◌, ◌++◌, All, length, IfOk, OnOk, IsTrue};
 ghost use Rattle.std.specs.Str.{chars};
-ghost use Rattle.es_text.specs.declared.finding.Finding.{Finding};
-ghost use Rattle.es_host.specs.Events.{File, Event, Enter, file_of};
-ghost use Rattle.es_host.specs.Lawful.{HeardAll};
-ghost use Rattle.es_host.specs.Spans.{findings_fit, spans_fit};
+ghost use Rattle.es_text.specs.Texts.{text_bytes};
+ghost use Rattle.es_config.specs.declared.verdict.Verdict.TheVariants.{Fine};
+ghost use Rattle.es_config.specs.Settings.{Options, options_of};
+ghost use Rattle.es_host.specs.Files.{File, IsWhole, file_of, rows_in};
+ghost use Rattle.es_host.specs.Lawful.{HeardAll, Lawful, is_asked};
+ghost use Rattle.es_host.specs.Meanings.{Event, Meaning};
+ghost use Rattle.es_host.specs.Spans.{findings_fit};
 
-use crate::ctx::Ctx;
+use crate::file::Ctx;
+use es_config::Verdict;
+use es_selectors::Selector;
 use es_text::{Finding, NoMemory};
+use serde_json::Value;
 use std::alloc::Global;
 
-/// A rule: it hears of the nodes of the kinds that it asked for, and then says what it found.
+/// A rule: it hears of the nodes that its selectors match, and then says what it found.
 ///
-/// After `NoMemory` of any call a rule has to begin again.
+/// Options are those behind its severity, and contracts see them as the JSON values that they hold. After
+/// `NoMemory` of any call a rule has to begin again.
 pub trait Rule: Drop {
-    /// The characters of its id.
-    ghost id: { Self → List ℕ };
+    /// Its id, its verdict on options, the selectors that it asks for under options, and what it says of a
+    /// file under options. No call changes it.
+    ghost meaning: { Self → Meaning };
 
-    /// The kinds of nodes that it asks for.
-    ghost interest: { Self → List ℕ };
-
-    /// What it has to say of a file.
-    ghost says: { Self → File → List Finding };
-
-    /// That it was told these events of a file since it began.
-    ghost heard: { Self → File → List Event → Type 0 };
+    /// That it began under these options, and was told these events of the file since.
+    ghost heard: { Self → File → Options → List Event → Type 0 };
 
     fn id(&self) -> &str
-        ensures { chars result.now ≡ id self.now };
+        ensures { chars result.now ≡ (meaning self.now).id };
 
-    /// Forgets what was heard.
-    fn begin(&mut self, alloc: Global) -> Result<(), NoMemory>
-        ensures same_id { id self.new ≡ id self.old }
-        ensures same_interest { interest self.new ≡ interest self.old }
-        ensures same_says { says self.new ≡ says self.old }
-        ensures nothing { OnOk result ((file : File) → heard self.new file []) };
+    /// Whether it takes the options.
+    fn verdict(&self, alloc: Global, options: &[Value]) -> Result<Verdict, NoMemory>
+        ensures { IfOk result (λ verdict. verdict ≡ (meaning self.now).verdict (options_of options.now)) };
 
-    /// The kinds of nodes that it asks for, each once.
-    fn interest(&self) -> &[u16]
-        ensures kinds { result.now ≡ interest self.now }
-        ensures distinct { IsDistinct eqb result.now };
+    /// Forgets what was heard, and takes these options.
+    fn begin(&mut self, alloc: Global, options: &[Value]) -> Result<(), NoMemory>
+        requires fine { (meaning self.old).verdict (options_of options.now) ≡ Fine }
+        ensures same { meaning self.new ≡ meaning self.old }
+        ensures nothing { OnOk result ((file : File) → heard self.new file (options_of options.now) []) };
 
-    /// The walk enters this node.
-    fn on_node(&mut self, alloc: Global, ctx: &Ctx, node: u32) -> Result<(), NoMemory>
-        requires spans { IsTrue (spans_fit (file_of ctx.now)) }
-        requires node { node < length ctx.now.tree.now }
-        requires ancestors { All (λ ancestor. ancestor < length ctx.now.tree.now) ctx.now.ancestors.now }
-        ensures same_id { id self.new ≡ id self.old }
-        ensures same_interest { interest self.new ≡ interest self.old }
-        ensures same_says { says self.new ≡ says self.old }
-        ensures more { OnOk result ((events : List Event) → heard self.old (file_of ctx.now) events
-            → heard self.new (file_of ctx.now) (events ++ Enter node ctx.now.ancestors.now ∷ [])) };
+    /// The selectors that it asks for, once it has begun.
+    fn interest(&self) -> &[Selector]
+        ensures { (file : File) (options : Options) (events : List Event) →
+            heard self.now file options events → result.now ≡ (meaning self.now).interest options };
+
+    /// The walk enters this node, or leaves it, as the selector at the index `which` of its interest has it.
+    fn on_node(&mut self, alloc: Global, ctx: &Ctx, node: u32, which: u32) -> Result<(), NoMemory>
+        requires whole { IsWhole (file_of ctx.now) }
+        requires node { node < length (rows_in (file_of ctx.now)) }
+        requires ancestors { All (λ ancestor. ancestor < length (rows_in (file_of ctx.now))) ctx.now.ancestors.now }
+        requires asked { (options : Options) (events : List Event) → heard self.old (file_of ctx.now) options events
+            → IsTrue (is_asked (rows_in (file_of ctx.now)) ((meaning self.old).interest options) node which) }
+        ensures same { meaning self.new ≡ meaning self.old }
+        ensures more { OnOk result ((options : Options) (events : List Event) → heard self.old (file_of ctx.now) options events
+            → heard self.new (file_of ctx.now) options
+            (events ++ record { node = node; which = which; ancestors = ctx.now.ancestors.now } ∷ [])) };
 
     /// What the rule found, once it heard all that it asked for.
     fn finish(&mut self, alloc: Global, ctx: &Ctx) -> Result<Vec<Finding>, NoMemory>
-        requires spans { IsTrue (spans_fit (file_of ctx.now)) }
+        requires whole { IsWhole (file_of ctx.now) }
         requires ancestors { ctx.now.ancestors.now ≡ [] }
-        requires heard { HeardAll (file_of ctx.now) (interest self.old) (heard self.old (file_of ctx.now)) }
-        ensures same_id { id self.new ≡ id self.old }
-        ensures same_interest { interest self.new ≡ interest self.old }
-        ensures same_says { says self.new ≡ says self.old }
-        ensures answer { IfOk result (λ findings. findings.items ≡ says self.old (file_of ctx.now)) }
-        ensures inside { OnOk result (IsTrue (findings_fit (file_of ctx.now) (says self.old (file_of ctx.now)))) };
+        requires heard { HeardAll (file_of ctx.now) (meaning self.old) (heard self.old (file_of ctx.now)) }
+        ensures same { meaning self.new ≡ meaning self.old }
+        ensures says { (options : Options) (events : List Event) → heard self.old (file_of ctx.now) options events
+            → Lawful (file_of ctx.now) ((meaning self.old).interest options) events
+            → IfOk result (λ findings. findings.items ≡ (meaning self.old).says (file_of ctx.now) options) }
+        ensures inside { IfOk result (λ findings.
+            IsTrue (findings_fit (text_bytes (file_of ctx.now).text) findings.items)) };
 }
 
 impl Rule for Box<dyn Rule + Send> {
-    ghost id = { λ rule. (Rule-box rule).id rule.value };
-
-    ghost interest = { λ rule. (Rule-box rule).interest rule.value };
-
-    ghost says = { λ rule. (Rule-box rule).says rule.value };
+    ghost meaning = { λ rule. (Rule-box rule).meaning rule.value };
 
     ghost heard = { λ rule. (Rule-box rule).heard rule.value };
 
@@ -77,16 +79,20 @@ impl Rule for Box<dyn Rule + Send> {
         (**self).id()
     }
 
-    fn begin(&mut self, alloc: Global) -> Result<(), NoMemory> {
-        (**self).begin(alloc)
+    fn verdict(&self, alloc: Global, options: &[Value]) -> Result<Verdict, NoMemory> {
+        (**self).verdict(alloc, options)
     }
 
-    fn interest(&self) -> &[u16] {
+    fn begin(&mut self, alloc: Global, options: &[Value]) -> Result<(), NoMemory> {
+        (**self).begin(alloc, options)
+    }
+
+    fn interest(&self) -> &[Selector] {
         (**self).interest()
     }
 
-    fn on_node(&mut self, alloc: Global, ctx: &Ctx, node: u32) -> Result<(), NoMemory> {
-        (**self).on_node(alloc, ctx, node)
+    fn on_node(&mut self, alloc: Global, ctx: &Ctx, node: u32, which: u32) -> Result<(), NoMemory> {
+        (**self).on_node(alloc, ctx, node, which)
     }
 
     fn finish(&mut self, alloc: Global, ctx: &Ctx) -> Result<Vec<Finding>, NoMemory> {

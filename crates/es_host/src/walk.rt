@@ -1,164 +1,197 @@
 //! The one walk through a tree, and what it tells the rules of a kit.
-ghost use Rattle.std.specs.Prelude.{ℕ, ◌≡◌, ◌+◌, ◌<◌, ◌≤◌, List, [], ◌∷◌, ◌++◌, length, map, IfOk, OnOk, IsTrue};
-ghost use Rattle.std.specs.List.{All};
-ghost use Rattle.std.specs.Str.{chars};
-ghost use Rattle.es_tree.specs.Rows.{IsNumbered};
-ghost use Rattle.es_host.specs.Events.{File, file_of, pair};
-ghost use Rattle.es_host.specs.Lawful.{ancestors_of, entries, path_before};
-ghost use Rattle.es_host.specs.Reports.{report_of, reports_of};
-ghost use Rattle.es_host.specs.Kits.{SameRules};
-ghost use Rattle.es_host.specs.Spans.{fixes_fit, reports_fit, spans_fit};
+ghost use Rattle.std.specs.Prelude.{ℕ, ◌≡◌, ◌<◌, List, [], ◌∷◌, ◌++◌, All, length, map, Some, OnOk};
+ghost use Rattle.std.specs.List.{flat_map};
+ghost use Rattle.es_tree.specs.Rows.{IsNumbered, kind_of};
+ghost use Rattle.es_config.specs.Settings.{Options};
+ghost use Rattle.es_host.specs.Files.{IsWhole, file_in, file_of, rows_in};
+ghost use Rattle.es_host.specs.Hearing.{EachHeard, events_of};
+ghost use Rattle.es_host.specs.Lawful.{hears, told_of};
+ghost use Rattle.es_host.specs.Listeners.{AreKinds, ServeAll};
+ghost use Rattle.es_host.specs.Meanings.{Event, Fits};
+ghost use Rattle.es_host.specs.Walk.{Moment, children, moment, walk, walk_from};
 
-use crate::ctx::Ctx;
+use crate::file::{Ctx, FileView};
+use crate::listeners::{Listener, kinds_of};
 use crate::rule::Rule;
-use es_text::{Finding, NoMemory, Report, Severity, Source, Txt};
+use es_selectors::Selector;
+use es_text::{Items, NoMemory};
 use es_tree::Tree;
 use std::alloc::Global;
 
-/// Each rule begins.
-pub fn begin_all<R: Rule>(alloc: Global, rules: &mut [R]) -> Result<(), NoMemory>
-    ensures same { SameRules R.id R.interest R.says rules.new rules.old }
-    ensures nothing { OnOk result ((file : File) → All (λ rule. R.heard rule file []) rules.new) }
+/// Whether the selector at this index matches the node, which the walk enters or leaves, and hears of that.
+fn hears(tree: &Tree, interest: &[Selector], leaves: bool, node: u32, which: u32) -> bool
+    requires { node < length tree.now }
+    ensures { (ancestors : List ℕ) → result ≡ hears tree.now interest.now (moment leaves ancestors node) which }
 {
-    for i in 0..rules.len() {
-        rules[i].begin(alloc)?;
-    }
-    Ok(())
-}
-
-/// Takes the nodes off the path that aren't above this node. On the path stand the node that comes
-/// before it, at the end, and the nodes above that one.
-fn climb(tree: &Tree, path: &mut Vec<u32>, node: u32)
-    requires node { node < length tree.now }
-    requires numbered { IsNumbered tree.now }
-    requires path { path.old.items ≡ path_before tree.now node }
-    ensures { path.new.items ≡ ancestors_of tree.now node }
-{
-    let parent = tree.parent(node);
-    while path.last().copied() != parent {
-        let _passed = path.pop();
+    match interest.get(which as usize) {
+        Some(selector) => selector.exit() == leaves && selector.matches(tree, node),
+        None => false,
     }
 }
 
-/// Tells the rule of the node, if it asked for the node's kind.
-fn tell<R: Rule>(alloc: Global, ctx: &Ctx, rule: &mut R, node: u32) -> Result<(), NoMemory>
-    requires spans { IsTrue (spans_fit (file_of ctx.now)) }
-    requires node { node < length ctx.now.tree.now }
-    requires ancestors { ctx.now.ancestors.now ≡ ancestors_of ctx.now.tree.now node }
-    requires below { All (λ ancestor. ancestor < length ctx.now.tree.now) ctx.now.ancestors.now }
-    ensures same_id { R.id rule.new ≡ R.id rule.old }
-    ensures same_interest { R.interest rule.new ≡ R.interest rule.old }
-    ensures same_says { R.says rule.new ≡ R.says rule.old }
-    ensures heard { OnOk result
-        (R.heard rule.old (file_of ctx.now) (entries ctx.now.tree.now (R.interest rule.old) node)
-        → R.heard rule.new (file_of ctx.now)
-        (entries ctx.now.tree.now (R.interest rule.old) (node + 1))) }
-{
-    let kind = ctx.tree.kind(node);
-    let asked = rule.interest().contains(&kind);
-    if asked {
-        rule.on_node(alloc, ctx, node)?;
-    }
-    Ok(())
-}
-
-/// Tells each rule, in their order, of the node, if it asked for the node's kind.
-fn tell_all<R: Rule>(alloc: Global, ctx: &Ctx, rules: &mut [R], node: u32) -> Result<(), NoMemory>
-    requires spans { IsTrue (spans_fit (file_of ctx.now)) }
-    requires node { node < length ctx.now.tree.now }
-    requires ancestors { ctx.now.ancestors.now ≡ ancestors_of ctx.now.tree.now node }
-    requires below { All (λ ancestor. ancestor < length ctx.now.tree.now) ctx.now.ancestors.now }
-    ensures same { SameRules R.id R.interest R.says rules.new rules.old }
-    ensures heard { OnOk result
-        (All (λ rule. R.heard rule (file_of ctx.now)
-        (entries ctx.now.tree.now (R.interest rule) node)) rules.old
-        → All (λ rule. R.heard rule (file_of ctx.now)
-        (entries ctx.now.tree.now (R.interest rule) (node + 1))) rules.new) }
-{
-    for i in 0..rules.len() {
-        tell(alloc, ctx, &mut rules[i], node)?;
-    }
-    Ok(())
-}
-
-/// Enters each node once, in the order of the numbers, and tells the rules of it.
-pub fn walk<R: Rule>(
+/// Tells the rule of the node, if the selector at this index of its interest has it so.
+fn tell<R: Rule>(
     alloc: Global,
-    source: &Source,
-    tree: &Tree,
-    rules: &mut [R],
+    ctx: &Ctx,
+    rule: &mut R,
+    leaves: bool,
+    node: u32,
+    which: u32,
 ) -> Result<(), NoMemory>
-    requires { IsTrue (spans_fit (pair source.now tree.now)) }
-    ensures same { SameRules R.id R.interest R.says rules.new rules.old }
-    ensures heard { OnOk result
-        (All (λ rule. R.heard rule (pair source.now tree.now) []) rules.old
-        → All (λ rule. R.heard rule (pair source.now tree.now)
-        (entries tree.now (R.interest rule) (length tree.now))) rules.new) }
+    requires whole { IsWhole (file_of ctx.now) }
+    requires node { node < length (rows_in (file_of ctx.now)) }
+    requires ancestors { All (λ ancestor. ancestor < length (rows_in (file_of ctx.now))) ctx.now.ancestors.now }
+    ensures same { R.meaning rule.new ≡ R.meaning rule.old }
+    ensures heard { OnOk result ((options : Options) (events : List Event) → R.heard rule.old (file_of ctx.now) options events
+        → R.heard rule.new (file_of ctx.now) options (events ++ told_of (rows_in (file_of ctx.now))
+        ((R.meaning rule.old).interest options) (moment leaves ctx.now.ancestors.now node) which)) }
 {
-    let mut path: Vec<u32> = Vec::new(alloc);
-    for node in 0..tree.count() {
-        climb(tree, &mut path, node);
-        let ctx = Ctx {
-            source,
-            tree,
-            ancestors: path.as_slice(),
-        };
-        tell_all(alloc, &ctx, rules, node)?;
-        path.push(node)?;
+    if hears(&ctx.file.parsed.tree, rule.interest(), leaves, node, which) {
+        rule.on_node(alloc, ctx, node, which)?;
     }
     Ok(())
 }
 
-/// Puts the findings of the rule of this id, which stands at this place, behind the reports.
-fn add_reports(
-    alloc: Global,
-    id: &str,
-    place: u32,
-    findings: Vec<Finding>,
-    reports: &mut Vec<Report>,
-) -> Result<(), NoMemory>
-    ensures { OnOk result
-        (reports.new.items
-        ≡ reports.old.items ++ map (report_of (chars id.now) place) findings.items) }
-{
-    for finding in findings {
-        let Finding { span, text, fix } = finding;
-        reports.push(Report {
-            rule: Some(Txt::new(alloc, id)?),
-            order: place,
-            severity: Severity::Error,
-            text,
-            span,
-            fix,
-            fatal: false,
-        })?;
-    }
-    Ok(())
-}
-
-/// The reports of rules that heard the whole walk.
-pub fn report_all<R: Rule>(
+/// Tells the rules of the node, in the order of the listeners.
+fn tell_all<R: Rule>(
     alloc: Global,
     ctx: &Ctx,
     rules: &mut [R],
-) -> Result<Vec<Report>, NoMemory>
-    requires spans { IsTrue (spans_fit (file_of ctx.now)) }
-    requires ancestors { ctx.now.ancestors.now ≡ [] }
-    requires heard { All (λ rule. R.heard rule (file_of ctx.now)
-        (entries ctx.now.tree.now (R.interest rule) (length ctx.now.tree.now))) rules.old }
-    ensures same { SameRules R.id R.interest R.says rules.new rules.old }
-    ensures reports { IfOk result
-        (λ reports. reports.items ≡ reports_of R.id (λ rule. R.says rule (file_of ctx.now)) rules.old) }
-    ensures inside { IfOk result (λ reports. IsTrue (reports_fit (file_of ctx.now) reports.items)) }
-    ensures fixes { IfOk result (λ reports. IsTrue (fixes_fit (file_of ctx.now) reports.items)) }
+    listeners: &[Listener],
+    leaves: bool,
+    node: u32,
+) -> Result<(), NoMemory>
+    requires whole { IsWhole (file_of ctx.now) }
+    requires node { node < length (rows_in (file_of ctx.now)) }
+    requires ancestors { All (λ ancestor. ancestor < length (rows_in (file_of ctx.now))) ctx.now.ancestors.now }
+    requires rules { All (λ listener. listener.rule < length rules.old) listeners.now }
+    requires serve { (kind : ℕ) → kind_of (rows_in (file_of ctx.now)) node ≡ Some kind
+        → ServeAll (map R.meaning rules.old) (file_of ctx.now) kind listeners.now }
+    ensures same { map R.meaning rules.new ≡ map R.meaning rules.old }
+    ensures heard { OnOk result ((moments : List Moment) →
+        EachHeard R.heard (file_of ctx.now) (events_of (map R.meaning rules.old) (file_of ctx.now) moments) rules.old →
+        EachHeard R.heard (file_of ctx.now) (events_of (map R.meaning rules.old) (file_of ctx.now)
+        (moments ++ moment leaves ctx.now.ancestors.now node ∷ [])) rules.new) }
 {
-    let mut reports = Vec::new(alloc);
-    for i in 0..rules.len() {
-        let Ok(place) = u32::try_from(i) else {
+    for listener in listeners {
+        tell(
+            alloc,
+            ctx,
+            &mut rules[listener.rule],
+            leaves,
+            node,
+            listener.which,
+        )?;
+    }
+    Ok(())
+}
+
+/// Tells the rules of the node, below those on the path.
+fn tell_on<R: Rule>(
+    alloc: Global,
+    file: &FileView,
+    rules: &mut [R],
+    kinds: &[Items<Listener>],
+    path: &[u32],
+    leaves: bool,
+    node: u32,
+) -> Result<(), NoMemory>
+    requires whole { IsWhole (file_in file.now) }
+    requires node { node < length (rows_in (file_in file.now)) }
+    requires path { All (λ ancestor. ancestor < length (rows_in (file_in file.now))) path.now }
+    requires kinds { AreKinds (map R.meaning rules.old) (file_in file.now) kinds.now }
+    ensures same { map R.meaning rules.new ≡ map R.meaning rules.old }
+    ensures heard { OnOk result ((moments : List Moment) →
+        EachHeard R.heard (file_in file.now) (events_of (map R.meaning rules.old) (file_in file.now) moments) rules.old →
+        EachHeard R.heard (file_in file.now) (events_of (map R.meaning rules.old) (file_in file.now)
+        (moments ++ moment leaves path.now node ∷ [])) rules.new) }
+{
+    let ctx = Ctx {
+        file,
+        ancestors: path,
+    };
+    let kind = file.parsed.tree.kind(node);
+    let listeners = kinds[kind as usize].as_slice();
+    tell_all(alloc, &ctx, rules, listeners, leaves, node)
+}
+
+/// Walks through the node, below those on the path.
+#[cycle(walk)]
+fn walk_from<R: Rule>(
+    alloc: Global,
+    file: &FileView,
+    rules: &mut [R],
+    kinds: &[Items<Listener>],
+    path: &mut Vec<u32>,
+    node: u32,
+) -> Result<(), NoMemory>
+    requires whole { IsWhole (file_in file.now) }
+    requires numbered { IsNumbered (rows_in (file_in file.now)) }
+    requires node { node < length (rows_in (file_in file.now)) }
+    requires path { All (λ ancestor. ancestor < length (rows_in (file_in file.now))) path.old.items }
+    requires kinds { AreKinds (map R.meaning rules.old) (file_in file.now) kinds.now }
+    ensures path { OnOk result (path.new.items ≡ path.old.items) }
+    ensures same { map R.meaning rules.new ≡ map R.meaning rules.old }
+    ensures heard { OnOk result ((moments : List Moment) →
+        EachHeard R.heard (file_in file.now) (events_of (map R.meaning rules.old) (file_in file.now) moments) rules.old →
+        EachHeard R.heard (file_in file.now) (events_of (map R.meaning rules.old) (file_in file.now)
+        (moments ++ walk_from (rows_in (file_in file.now)) path.old.items node)) rules.new) }
+{
+    tell_on(alloc, file, rules, kinds, path.as_slice(), false, node)?;
+    path.push(node)?;
+    walk_children(alloc, file, rules, kinds, path, node)?;
+    let _node = path.pop();
+    tell_on(alloc, file, rules, kinds, path.as_slice(), true, node)?;
+    Ok(())
+}
+
+/// Walks through the children of the node, which is the last on the path.
+#[cycle(walk)]
+fn walk_children<R: Rule>(
+    alloc: Global,
+    file: &FileView,
+    rules: &mut [R],
+    kinds: &[Items<Listener>],
+    path: &mut Vec<u32>,
+    node: u32,
+) -> Result<(), NoMemory>
+    requires whole { IsWhole (file_in file.now) }
+    requires numbered { IsNumbered (rows_in (file_in file.now)) }
+    requires node { node < length (rows_in (file_in file.now)) }
+    requires path { All (λ ancestor. ancestor < length (rows_in (file_in file.now))) path.old.items }
+    requires kinds { AreKinds (map R.meaning rules.old) (file_in file.now) kinds.now }
+    ensures path { OnOk result (path.new.items ≡ path.old.items) }
+    ensures same { map R.meaning rules.new ≡ map R.meaning rules.old }
+    ensures heard { OnOk result ((moments : List Moment) →
+        EachHeard R.heard (file_in file.now) (events_of (map R.meaning rules.old) (file_in file.now) moments) rules.old →
+        EachHeard R.heard (file_in file.now) (events_of (map R.meaning rules.old) (file_in file.now)
+        (moments ++ flat_map (walk_from (rows_in (file_in file.now)) path.old.items)
+        (children (rows_in (file_in file.now)) node))) rules.new) }
+{
+    let mut index: u32 = 0;
+    while let Some(child) = file.parsed.tree.child(node, index) {
+        walk_from(alloc, file, rules, kinds, path, child)?;
+        let Some(next) = index.checked_add(1) else {
             return Err(NoMemory);
         };
-        let findings = rules[i].finish(alloc, ctx)?;
-        add_reports(alloc, rules[i].id(), place, findings, &mut reports)?;
+        index = next;
     }
-    Ok(reports)
+    Ok(())
+}
+
+/// Walks through the whole tree, and tells the rules of each node that it enters or leaves.
+pub fn walk<R: Rule>(alloc: Global, file: &FileView, rules: &mut [R]) -> Result<(), NoMemory>
+    requires whole { IsWhole (file_in file.now) }
+    requires fits { Fits (map R.meaning rules.old) (file_in file.now) }
+    requires begun { EachHeard R.heard (file_in file.now) (λ _. []) rules.old }
+    ensures same { map R.meaning rules.new ≡ map R.meaning rules.old }
+    ensures heard { OnOk result (EachHeard R.heard (file_in file.now)
+        (events_of (map R.meaning rules.old) (file_in file.now) (walk (rows_in (file_in file.now)))) rules.new) }
+{
+    // A tree has a root, as its call says.
+    let _count = file.parsed.tree.count();
+    let kinds = kinds_of(alloc, file, rules)?;
+    let mut path: Vec<u32> = Vec::new(alloc);
+    walk_from(alloc, file, rules, kinds.as_slice(), &mut path, 0)?;
+    Ok(())
 }

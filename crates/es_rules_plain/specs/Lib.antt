@@ -1,1 +1,4 @@
-pub mod Debugger
+pub mod DefaultCaseLast
+pub mod EolLast
+pub mod NoDebugger
+pub mod NoExtraSemi

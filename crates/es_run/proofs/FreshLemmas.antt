@@ -4,7 +4,7 @@ use Rattle.std.specs.Prelude.{Option, Some, None, Err, string_bytes}
 use Rattle.std.specs.Str.{chars}
 use Rattle.std.specs.FinMap as finite
 use Rattle.es_text.specs.declared.finding.Report.{Report}
-use Rattle.es_host.specs.Events.{File}
+use Rattle.es_run.specs.Programs.{Program}
 use Rattle.es_files.specs.declared.outside.ReadFault.{ReadFault}
 use Rattle.es_files.specs.declared.outside.ReadFault.TheVariants as read
 use Rattle.es_files.specs.Outside.{HoldsMore}
@@ -41,7 +41,7 @@ pub no_name_answer : (given : Given) → NoName given.arguments → IsTheAnswer 
 no_name_answer given none = record { gives = bad_words none refl; only = no_name_only given none }
 
 -- the answer for a name, and for no other
-pub record IsOfName (says : File → List Report) (name : List ℕ) (found : Option (List ℕ)) (answer : Answer) : Type 0 where
+pub record IsOfName (says : Program → List Report) (name : List ℕ) (found : Option (List ℕ)) (answer : Answer) : Type 0 where
   pub gives : OfName says name found answer
   pub only : (other : Answer) → OfName says name found other → other ≡ answer
 
@@ -56,7 +56,7 @@ named_answer : (given : Given) (name : List ℕ) (answer : Answer) → Names giv
 named_answer given name answer names of =
     record { gives = named name names of.gives; only = named_only given name answer names of }
 
-module _ (says : File → List Report) where
+module _ (says : Program → List Report) where
   -- a name that isn't held
   no_file_only : (name : List ℕ) (found : Option (List ℕ)) → found ≡ None → (other : Answer) → OfName says name found other →
       other ≡ stopped (NoFile (chars name))

@@ -15,13 +15,13 @@ use Rattle.es_text.specs.declared.token.Token.{Token}
 use Rattle.es_text.specs.Texts.{Text, text_bytes}
 use Rattle.es_tree.specs.declared.shape.Shape.{Shape}
 use Rattle.es_tree.specs.Numbering.{rows_of}
-use Rattle.es_tree.specs.Rows.{Row}
-use Rattle.es_host.specs.Events.{File, pair}
+use Rattle.es_tree.specs.declared.parsed.Parsed.{Parsed}
 use Rattle.es_parser.specs.declared.parser.ParseFault.{ParseFault}
 use Rattle.es_parser.specs.declared.parser.ParseFault.TheVariants as fault
-use Rattle.es_parser.specs.Parsing.{Deep, IsFault, IsInText, Parses, ParsesOnce, Parsing, Unread, Whole, Wrong}
+use Rattle.es_parser.specs.Parsing.{Deep, IsFault, IsInText, IsParsed, Parses, ParsesOnce, Parsing, Unread, Whole, Wrong}
 use Rattle.es_run.specs.Messages.{Fatal, IsTheLinting, Linting, Lints, fatal_of, fatal_problem, not_parsed, parsed, problem_of}
 use Rattle.es_run.specs.Order.{IsInOrder}
+use Rattle.es_run.specs.Programs.{Program, parsed_of, program_of}
 use Rattle.es_run.specs.Stages.{IsSaid, IsUnparsed, fault_fatal}
 use Rattle.es_run.specs.Stylish.{Problem}
 use Rattle.es_run.proofs.OrderLemmas.{one_order}
@@ -33,6 +33,9 @@ no_fatal tree tokens fatal h = absurd (cc)
 
 same_tree : {tree other : Shape} {tokens others : List Token} → Whole tree tokens ≡ Whole other others → tree ≡ other
 same_tree h = cc
+
+same_tokens : {tree other : Shape} {tokens others : List Token} → Whole tree tokens ≡ Whole other others → tokens ≡ others
+same_tokens h = cc
 
 no_message : {fatal : Fatal} → None ≡ Some fatal → ⊥
 no_message h = absurd (cc)
@@ -49,25 +52,34 @@ said_linting characters reports = record { problems = map (problem_of characters
 abbrev fatal_linting : List ℕ → Fatal → Linting
 fatal_linting characters fatal = record { problems = fatal_problem characters fatal ∷ []; heard = 0 }
 
-module _ (says : File → List Report) (source : SourceType) (text : Text) (once : ParsesOnce) where
+module _ (says : Program → List Report) (source : SourceType) (text : Text) (once : ParsesOnce) where
   -- a text that is parsed
   said_only : (tree : Shape) (tokens : List Token) (reports : List Report) → Parses (text_bytes text) source (Whole tree tokens) →
-      IsInOrder (says (pair text (rows_of tree))) reports → (other : Linting) → Lints says source text other →
+      IsInOrder (says (program_of source text tree tokens)) reports → (other : Linting) → Lints says source text other →
       other ≡ said_linting text.characters reports
   said_only tree tokens reports parses ordered other (not_parsed parsing fatal parses' told is) =
       let same : parsing ≡ Whole tree tokens = once (text_bytes text) source parsing (Whole tree tokens) parses' parses in
       absurd (no_fatal tree tokens fatal (subst (λ p. fatal_of p ≡ Some fatal) same told))
   said_only tree tokens reports parses ordered other (parsed tree' tokens' reports' parses' ordered' is) =
-      let same : tree' ≡ tree = same_tree (once (text_bytes text) source (Whole tree' tokens') (Whole tree tokens) parses' parses) in
-      let one : reports' ≡ reports = one_order (says (pair text (rows_of tree))) reports reports' ordered
-      (subst (λ t. IsInOrder (says (pair text (rows_of t))) reports') same ordered') in
+      let whole : Whole tree' tokens' ≡ Whole tree tokens = once (text_bytes text) source (Whole tree' tokens') (Whole tree tokens) parses' parses in
+      let same : program_of source text tree' tokens' ≡ program_of source text tree tokens =
+      ap (λ t. program_of source text t tokens') (same_tree whole) ∙ ap (program_of source text tree) (same_tokens whole) in
+      let one : reports' ≡ reports = one_order (says (program_of source text tree tokens)) reports reports' ordered
+      (subst (λ p. IsInOrder (says p) reports') same ordered') in
       is ∙ ap (said_linting text.characters) one
 
-  pub said_linted : (tree : Shape) (tokens : List Token) (rows : List Row) (problems : List Problem) →
-      Parses (text_bytes text) source (Whole tree tokens) → rows ≡ rows_of tree → IsSaid says text rows problems →
+  pub said_linted : (read : Parsed) (problems : List Problem) → IsParsed (text_bytes text) source read →
+      IsSaid says (record { source_type = source; text = text; parsed = read }) problems →
       IsTheLinting says source text (record { problems = problems; heard = 1 })
-  said_linted tree tokens rows problems parses is said =
-      let ordered = subst (λ r. IsInOrder (says (pair text r)) said.reports) is said.ordered in
+  said_linted read problems whole said =
+      let tree : Shape = whole.tree in
+      let tokens : List Token = read.tokens in
+      let parses = whole.parses in
+      let is : read ≡ parsed_of text tree tokens =
+      ap (λ rows. record { tree = rows; tokens = tokens; comments = read.comments }) whole.rows
+      ∙ ap (λ comments. record { tree = rows_of tree; tokens = tokens; comments = comments }) whole.comments in
+      let ordered : IsInOrder (says (program_of source text tree tokens)) said.reports =
+      subst (λ r. IsInOrder (says (record { source_type = source; text = text; parsed = r })) said.reports) is said.ordered in
       let same : record { problems = problems; heard = 1 } ≡ said_linting text.characters said.reports =
       ap (λ (ps : List Problem). let linting : Linting = record { problems = ps; heard = 1 } in linting) said.all in
       record {

@@ -5,7 +5,7 @@ use Rattle.std.specs.Str.{chars}
 use Rattle.std.specs.FinMap as finite
 use Rattle.es_text.specs.declared.finding.Report.{Report}
 use Rattle.es_text.specs.Texts.{text_of}
-use Rattle.es_host.specs.Events.{File}
+use Rattle.es_run.specs.Programs.{Program}
 use Rattle.es_files.specs.Outside.{Held}
 use Rattle.es_run.specs.declared.status.Status.{Status}
 use Rattle.es_run.specs.declared.status.Status.TheVariants.{Clean, Problems, Stopped}
@@ -18,7 +18,7 @@ use Rattle.es_run.specs.Arguments.{Names, NoName}
 
 -- what a run is given: what the rules say of a file, the arguments as their bytes, and what is held
 pub record Given : Type 0 where
-  pub says : File → List Report
+  pub says : Program → List Report
   pub arguments : List (List ℕ)
   pub held : Held
 
@@ -52,13 +52,13 @@ abbrev pub most_bytes : ℕ
 most_bytes = 2097152
 
 -- the answer for a file of this name and these bytes
-pub data OfBytes (says : File → List Report) (name bytes : List ℕ) (answer : Answer) : Type 0 where
+pub data OfBytes (says : Program → List Report) (name bytes : List ℕ) (answer : Answer) : Type 0 where
   too_long : most_bytes < length bytes → answer ≡ stopped (TooLong (chars name)) → OfBytes says name bytes answer
   linted : (linting : Linting) → length bytes ≤ most_bytes → Lints says (source_type_of name) (text_of bytes) linting →
       answer ≡ reported name linting → OfBytes says name bytes answer
 
 -- the answer for a name, under which these bytes are held, or none
-pub data OfName (says : File → List Report) (name : List ℕ) (found : Option (List ℕ)) (answer : Answer) : Type 0 where
+pub data OfName (says : Program → List Report) (name : List ℕ) (found : Option (List ℕ)) (answer : Answer) : Type 0 where
   no_file : found ≡ None → answer ≡ stopped (NoFile (chars name)) → OfName says name found answer
   held : (bytes : List ℕ) → found ≡ Some bytes → OfBytes says name bytes answer → OfName says name found answer
 

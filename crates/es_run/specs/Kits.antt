@@ -1,16 +1,20 @@
 -- What a run makes of its kits.
-use Rattle.std.specs.Prelude.{◌≡◌, ℕ, zero, suc, ◌⊎◌, List, [], ◌∷◌, map}
-use Rattle.es_text.specs.declared.finding.Finding.{Finding}
+use Rattle.std.specs.Prelude.{◌≡◌, ℕ, zero, suc, ◌⊎◌, List, [], ◌∷◌, length, map}
 use Rattle.es_text.specs.declared.finding.Report.{Report}
-use Rattle.es_host.specs.Events.{File}
-use Rattle.es_host.specs.Kits.{KitOf}
+use Rattle.es_host.specs.Kits.{KitOf, meanings_of}
+use Rattle.es_host.specs.Meanings.{Meaning}
 use Rattle.es_host.specs.Reports.{kit_says}
+use Rattle.es_run.specs.Programs.{Program, file_at_error}
 use Rattle.es_files.specs.Outside.{one_more}
 
--- what the first kit says of a file
-abbrev pub first_says : {R : Type 0} → (R → List ℕ) → (R → File → List Finding) → List (KitOf R) → File → List Report
-first_says id says [] file = []
-first_says id says (kit ∷ kits) file = kit_says id says kit file
+-- what a kit says of a program, with each rule at error and without options
+abbrev pub program_says : {R : Type 0} → (R → Meaning) → KitOf R → Program → List Report
+program_says meaning kit program = kit_says (meanings_of meaning kit) (file_at_error (length kit.rules) program)
+
+-- what the first kit says of a program
+abbrev pub first_says : {R : Type 0} → (R → Meaning) → List (KitOf R) → Program → List Report
+first_says meaning [] program = []
+first_says meaning (kit ∷ kits) program = program_says meaning kit program
 
 -- what this is of the rules of each kit, one by one
 abbrev pub of_rules : {R X : Type 0} → (R → X) → List (KitOf R) → List (List X)

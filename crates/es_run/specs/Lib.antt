@@ -3,6 +3,7 @@ pub mod Fresh
 pub mod Kits
 pub mod Messages
 pub mod Order
+pub mod Programs
 pub mod Runs
 pub mod Stages
 pub mod Statuses

@@ -8,8 +8,7 @@ use Rattle.es_text.specs.declared.token.SourceType.TheVariants.{Commonjs, Module
 use Rattle.es_text.specs.declared.token.Token.{Token}
 use Rattle.es_text.specs.Texts.{Text, place_at, text_bytes}
 use Rattle.es_tree.specs.declared.shape.Shape.{Shape}
-use Rattle.es_tree.specs.Numbering.{rows_of}
-use Rattle.es_host.specs.Events.{File, pair}
+use Rattle.es_run.specs.Programs.{Program, program_of}
 use Rattle.es_parser.specs.Parsing.{Deep, Parses, Parsing, Unread, Whole, Wrong}
 use Rattle.es_run.specs.Order.{IsInOrder}
 use Rattle.es_run.specs.Stylish.{Problem}
@@ -46,14 +45,14 @@ pub record Linting : Type 0 where
   pub heard : ℕ
 
 -- one message and nothing heard, where the text isn't parsed; else what the rules say of its tree
-pub data Lints (says : File → List Report) (source : SourceType) (text : Text) (linting : Linting) : Type 0 where
+pub data Lints (says : Program → List Report) (source : SourceType) (text : Text) (linting : Linting) : Type 0 where
   not_parsed : (parsing : Parsing) (fatal : Fatal) → Parses (text_bytes text) source parsing → fatal_of parsing ≡ Some fatal →
       linting ≡ record { problems = fatal_problem text.characters fatal ∷ []; heard = 0 } → Lints says source text linting
   parsed : (tree : Shape) (tokens : List Token) (reports : List Report) → Parses (text_bytes text) source (Whole tree tokens) →
-      IsInOrder (says (pair text (rows_of tree))) reports →
+      IsInOrder (says (program_of source text tree tokens)) reports →
       linting ≡ record { problems = map (problem_of text.characters) reports; heard = 1 } → Lints says source text linting
 
 -- linting a text gives this and nothing else
-pub record IsTheLinting (says : File → List Report) (source : SourceType) (text : Text) (linting : Linting) : Type 0 where
+pub record IsTheLinting (says : Program → List Report) (source : SourceType) (text : Text) (linting : Linting) : Type 0 where
   pub gives : Lints says source text linting
   pub only : (other : Linting) → Lints says source text other → other ≡ linting

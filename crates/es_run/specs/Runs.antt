@@ -3,7 +3,7 @@ use Rattle.std.specs.Prelude.{◌≡◌, ℕ, ◌⊎◌, List, [], map, String, 
 use Rattle.std.specs.declared.alloc.Global.{Global}
 use Rattle.std.specs.Str.{chars}
 use Rattle.es_text.specs.declared.finding.Report.{Report}
-use Rattle.es_host.specs.Events.{File}
+use Rattle.es_run.specs.Programs.{Program}
 use Rattle.es_files.specs.Outside.{FilesState, HasFailed, Held, SentPart, SinkState, reading, with_sent}
 use Rattle.es_run.specs.declared.status.Status.{Status}
 use Rattle.es_run.specs.declared.status.Status.TheVariants.{Clean, Problems, Stopped, NoMemory}
@@ -62,7 +62,7 @@ IsUnlessNoMemory status result = (result ≡ status) ⊎ (result ≡ NoMemory)
 -- ---- what a run does
 
 -- what a run is given
-abbrev pub given : (File → List Report) → List (String Global) → Held → Given
+abbrev pub given : (Program → List Report) → List (String Global) → Held → Given
 given says arguments held = record { says = says; arguments = map string_bytes arguments; held = held }
 
 -- the two sinks of a run

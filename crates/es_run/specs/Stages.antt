@@ -1,9 +1,8 @@
 -- What the stages of a run answer.
 use Rattle.std.specs.Prelude.{◌≡◌, ℕ, ◌⊎◌, List, [], ◌∷◌, map, Bool, Option, Some, None, Result, Ok, Err, string_bytes, if◌then◌else◌}
 use Rattle.es_text.specs.declared.finding.Report.{Report}
-use Rattle.es_text.specs.Texts.{Text, text_of}
-use Rattle.es_tree.specs.Rows.{Row}
-use Rattle.es_host.specs.Events.{File, pair}
+use Rattle.es_text.specs.Texts.{text_of}
+use Rattle.es_run.specs.Programs.{Program}
 use Rattle.es_parser.specs.declared.parser.ParseFault.{ParseFault}
 use Rattle.es_parser.specs.declared.parser.ParseFault.TheVariants as parse
 use Rattle.es_parser.specs.Parsing.{Deep, Unread, Wrong}
@@ -46,11 +45,11 @@ answer_of outcome = record {
 abbrev pub linting_of : Found → Linting
 linting_of found = record { problems = found.problems.items; heard = times found.heard }
 
--- what is printed of what the rules say of a tree's rows
-pub record IsSaid (says : File → List Report) (text : Text) (rows : List Row) (problems : List Problem) : Type 0 where
+-- what is printed of what the rules say of a program
+pub record IsSaid (says : Program → List Report) (program : Program) (problems : List Problem) : Type 0 where
   pub reports : List Report
-  pub ordered : IsInOrder (says (pair text rows)) reports
-  pub all : problems ≡ map (problem_of text.characters) reports
+  pub ordered : IsInOrder (says program) reports
+  pub all : problems ≡ map (problem_of program.text.characters) reports
 
 -- the message of a fault of parsing; being out of memory has none
 abbrev pub fault_fatal : ParseFault → Option Fatal
@@ -66,7 +65,7 @@ pub record IsUnparsed (characters : List ℕ) (fault : ParseFault) (problems : L
   pub one : problems ≡ fatal_problem characters fatal ∷ []
 
 -- the report on a file of this name and these bytes, of which the rules say this
-pub record IsReportOn (says : File → List Report) (name bytes : List ℕ) (outcome : Outcome) : Type 0 where
+pub record IsReportOn (says : Program → List Report) (name bytes : List ℕ) (outcome : Outcome) : Type 0 where
   pub linting : Linting
   pub lints : IsTheLinting says (source_type_of name) (text_of bytes) linting
   pub status : done_status outcome.clean ≡ status_of linting.problems

@@ -7,6 +7,7 @@ mod fatal;
 mod order;
 mod report;
 mod runner;
+mod settings;
 mod status;
 mod stylish;
 

@@ -1,23 +1,25 @@
 //! The report on one file.
-ghost use Rattle.std.specs.Prelude.{◌≡◌, ◌≤◌, ◌<◌, ◌⊎◌, true, IfErr, IfOk, if◌then◌else◌, length, map};
+ghost use Rattle.std.specs.Prelude.{◌≡◌, ◌≤◌, ◌<◌, ◌⊎◌, true, IfErr, IfOk, OnOk, if◌then◌else◌, length, map};
 ghost use Rattle.std.specs.List.{list_all};
 ghost use Rattle.es_text.specs.Spans.{is_part};
 ghost use Rattle.es_text.specs.Texts.{text_bytes, text_of};
-ghost use Rattle.es_host.specs.Kits.{SameRules};
-ghost use Rattle.es_host.specs.Reports.{kit_says};
+ghost use Rattle.es_host.specs.Kits.{NeedsNoOptions, meanings_of};
 ghost use Rattle.es_files.specs.Outside.{one_more};
 ghost use Rattle.es_parser.specs.Parsing.{AreInText, IsFault, IsInText, IsParsed};
 ghost use Rattle.es_run.specs.Fresh.{most_bytes};
+ghost use Rattle.es_run.specs.Kits.{program_says};
 ghost use Rattle.es_run.specs.Messages.{IsTheLinting, problem_of, source_type_of};
 ghost use Rattle.es_run.specs.Stages.{IsReportOn, IsSaid, linting_of};
 
 use crate::fatal::unparsed;
 use crate::order::in_order;
+use crate::settings::config_at_error;
 use crate::stylish::{Problem, stylish};
-use es_host::{Kit, Rule, listen};
+use es_config::Known;
+use es_host::{FileView, Kit, Rule, listen};
 use es_parser::{ParseFault, one_parse, parse};
 use es_text::{NoMemory, Report, Source, SourceFault, SourceType, Steps, parts_lie};
-use es_tree::{Parsed, Tree};
+use es_tree::Parsed;
 use std::alloc::Global;
 use std::marker::Brand;
 use std::sync::ledger::{Blank, Ledger};
@@ -44,9 +46,10 @@ pub(crate) fn report_on<R: Rule>(
     bytes: &[u8],
     kit: &mut Kit<R>,
 ) -> Result<Outcome, NoMemory>
-    requires { length bytes.now ≤ most_bytes }
-    ensures report { IfOk result (IsReportOn (kit_says R.id R.says kit.old) name.now bytes.now) }
-    ensures same { SameRules R.id R.interest R.says kit.new.rules kit.old.rules }
+    requires short { length bytes.now ≤ most_bytes }
+    requires options { NeedsNoOptions R.meaning kit.old }
+    ensures report { IfOk result (IsReportOn (program_says R.meaning kit.old) name.now bytes.now) }
+    ensures same { meanings_of R.meaning kit.new ≡ meanings_of R.meaning kit.old }
     ensures lints { IfOk result (λ outcome. kit.new.lints ≡
         (if outcome.heard then one_more kit.old.lints else kit.old.lints)) }
     ensures once { (kit.new.lints ≡ kit.old.lints) ⊎ (kit.new.lints ≡ one_more kit.old.lints) }
@@ -92,9 +95,10 @@ fn lint<R: Rule>(
     source_type: SourceType,
     kit: &mut Kit<R>,
 ) -> Result<Found, NoMemory>
+    requires { NeedsNoOptions R.meaning kit.old }
     ensures linting { IfOk result (λ found.
-        IsTheLinting (kit_says R.id R.says kit.old) source_type source.now (linting_of found)) }
-    ensures same { SameRules R.id R.interest R.says kit.new.rules kit.old.rules }
+        IsTheLinting (program_says R.meaning kit.old) source_type source.now (linting_of found)) }
+    ensures same { meanings_of R.meaning kit.new ≡ meanings_of R.meaning kit.old }
     ensures lints { IfOk result (λ found. kit.new.lints ≡
         (if found.heard then one_more kit.old.lints else kit.old.lints)) }
     ensures once { (kit.new.lints ≡ kit.old.lints) ⊎ (kit.new.lints ≡ one_more kit.old.lints) }
@@ -102,7 +106,7 @@ fn lint<R: Rule>(
     one_parse();
     match counted_parse::<Brand>(alloc, source, source_type, Blank::new(1)) {
         Ok(parsed) => Ok(Found {
-            problems: said(alloc, source, &parsed.tree, kit)?,
+            problems: said(alloc, source, source_type, &parsed, kit)?,
             heard: true,
         }),
         Err(fault) => Ok(Found {
@@ -131,20 +135,31 @@ fn counted_parse<L: Ledger>(
     parse(alloc, source, source_type, &mut steps)
 }
 
-/// What is printed of what the kit says of the tree.
+/// What is printed of what the kit says of what is read from the source, with each rule at error and without
+/// options.
 fn said<R: Rule>(
     alloc: Global,
     source: &Source,
-    tree: &Tree,
+    source_type: SourceType,
+    parsed: &Parsed,
     kit: &mut Kit<R>,
 ) -> Result<Vec<Problem>, NoMemory>
-    requires { AreInText (text_bytes source.now) tree.now }
+    requires parsed { IsParsed (text_bytes source.now) source_type parsed.now }
+    requires spans { AreInText (text_bytes source.now) parsed.now.tree }
+    requires options { NeedsNoOptions R.meaning kit.old }
     ensures said { IfOk result (λ problems.
-        IsSaid (kit_says R.id R.says kit.old) source.now tree.now problems.items) }
-    ensures same { SameRules R.id R.interest R.says kit.new.rules kit.old.rules }
-    ensures lints { kit.new.lints ≡ one_more kit.old.lints }
+        IsSaid (program_says R.meaning kit.old) (record { source_type = source_type; text = source.now; parsed = parsed.now }) problems.items) }
+    ensures same { meanings_of R.meaning kit.new ≡ meanings_of R.meaning kit.old }
+    ensures lints { OnOk result (kit.new.lints ≡ one_more kit.old.lints) }
+    ensures once { (kit.new.lints ≡ kit.old.lints) ⊎ (kit.new.lints ≡ one_more kit.old.lints) }
 {
-    let reports = in_order(alloc, listen(alloc, source, tree, kit)?)?;
+    let config = config_at_error(alloc, source_type, kit.count())?;
+    let file = FileView {
+        source,
+        parsed,
+        config: &config,
+    };
+    let reports = in_order(alloc, listen(alloc, &file, kit)?)?;
     problems_of(alloc, source, reports)
 }
 

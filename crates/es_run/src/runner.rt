@@ -1,8 +1,9 @@
 //! The run: arguments, file, report, status.
-ghost use Rattle.std.specs.Prelude.{◌≡◌, ◌≤◌, ◌⊎◌, ℕ, List, [], Err, map, string_bytes, length, OnOk, IfOk, IfErr};
+ghost use Rattle.std.specs.Prelude.{◌≡◌, ◌≤◌, ◌⊎◌, ℕ, All, List, [], Err, map, string_bytes, length, OnOk, IfOk, IfErr};
 ghost use Rattle.std.specs.Cow.{cow_str_bytes};
 ghost use Rattle.std.specs.Option.{ForSome};
 ghost use Rattle.es_files.specs.Outside.{FilesFailed, SentPart, SinkFailed, with_sent};
+ghost use Rattle.es_host.specs.Kits.{NeedsNoOptions};
 ghost use Rattle.es_run.specs.Kits.{ListensAtMostOnce, first_heard, first_says, lints_of, of_rules};
 ghost use Rattle.es_run.specs.Runs.{DoesAsFresh, IfCannotRead, IsDone, IsReported, IsSettled, IsSilent, IsTold, IsUnlessNoMemory, IsUnread, ListensAsFresh, PrintsPart, given, sinks};
 ghost use Rattle.es_run.specs.Stages.{Blames, Foretells, IsPrintStatus, Listened, done_status, fault_of};
@@ -103,14 +104,13 @@ fn lint<R: Rule, F: Files>(
     kits: &mut Vec<Kit<R>>,
     files: &mut F,
 ) -> Result<Outcome, Fault>
-    requires { 1 ≤ length kits.old.items }
+    requires kits { 1 ≤ length kits.old.items }
+    requires options { All (NeedsNoOptions R.meaning) kits.old.items }
     ensures same { (F.state files.new).holds ≡ (F.state files.old).holds }
-    ensures ids { of_rules R.id kits.new.items ≡ of_rules R.id kits.old.items }
-    ensures interests { of_rules R.interest kits.new.items ≡ of_rules R.interest kits.old.items }
-    ensures says { of_rules R.says kits.new.items ≡ of_rules R.says kits.old.items }
+    ensures meanings { of_rules R.meaning kits.new.items ≡ of_rules R.meaning kits.old.items }
     ensures lints { Listened result (lints_of kits.old.items) (lints_of kits.new.items) }
     ensures fresh { ForSome (F.state files.old).holds (λ held.
-        Foretells (given (first_says R.id R.says kits.old.items) words.now held) result) }
+        Foretells (given (first_says R.meaning kits.old.items) words.now held) result) }
     ensures blame { IfErr result
         (Blames (map string_bytes words.now) (F.state files.old) (F.state files.new)) }
     ensures still { OnOk result (F.state files.new ≡ F.state files.old) }
@@ -174,13 +174,14 @@ pub fn run<R: Rule, F: Files, O: Sink, E: Sink>(
     err: &mut E,
 ) -> Status
     requires kits { 1 ≤ length kits.old.items }
+    requires options { All (NeedsNoOptions R.meaning) kits.old.items }
 
     // The files are only read.
     ensures files { (F.state files.new).holds ≡ (F.state files.old).holds }
 
     // A settled status comes with the output and the line of a fresh run, which gives nothing else.
     ensures fresh { IsSettled result → ForSome (F.state files.old).holds (λ held.
-        DoesAsFresh (given (first_says R.id R.says kits.old.items) words.now held) result
+        DoesAsFresh (given (first_says R.meaning kits.old.items) words.now held) result
         (sinks (O.state out.old) (E.state err.old)) (sinks (O.state out.new) (E.state err.new))) }
 
     // Without a fault of the outside the status is settled, or it was out of memory.
@@ -201,7 +202,7 @@ pub fn run<R: Rule, F: Files, O: Sink, E: Sink>(
         SinkFailed (O.state out.old) (O.state out.new) }
     ensures part { result ≡ Status.Stopped StopCause.CannotPrint →
         ForSome (F.state files.old).holds (λ held.
-        PrintsPart (given (first_says R.id R.says kits.old.items) words.now held)
+        PrintsPart (given (first_says R.meaning kits.old.items) words.now held)
         (O.state out.old) (O.state out.new)) }
 
     // Each cause has its line, and a run that prints its report tells nothing.
@@ -217,17 +218,15 @@ pub fn run<R: Rule, F: Files, O: Sink, E: Sink>(
         (O.state out.new ≡ O.state out.old) ⊎ SinkFailed (O.state out.old) (O.state out.new) }
     ensures no_more { result ≡ Status.NoMemory → ForSome (F.state files.old).holds (λ held.
         (O.state out.new ≡ O.state out.old)
-        ⊎ PrintsPart (given (first_says R.id R.says kits.old.items) words.now held)
+        ⊎ PrintsPart (given (first_says R.meaning kits.old.items) words.now held)
         (O.state out.old) (O.state out.new)) }
 
     // A run changes no meaning of a rule of the kits.
-    ensures ids { of_rules R.id kits.new.items ≡ of_rules R.id kits.old.items }
-    ensures interests { of_rules R.interest kits.new.items ≡ of_rules R.interest kits.old.items }
-    ensures says { of_rules R.says kits.new.items ≡ of_rules R.says kits.old.items }
+    ensures meanings { of_rules R.meaning kits.new.items ≡ of_rules R.meaning kits.old.items }
 
     // The first kit listens once where the file is parsed, and no other ever does.
     ensures listens { IsReported result → ForSome (F.state files.old).holds (λ held.
-        ListensAsFresh (given (first_says R.id R.says kits.old.items) words.now held)
+        ListensAsFresh (given (first_says R.meaning kits.old.items) words.now held)
         (lints_of kits.old.items) (lints_of kits.new.items)) }
     ensures rests { IsSilent result → lints_of kits.new.items ≡ lints_of kits.old.items }
     ensures once { ListensAtMostOnce (lints_of kits.old.items) (lints_of kits.new.items) }

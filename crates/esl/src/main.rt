@@ -6,7 +6,7 @@ ghost use Rattle.std.specs.Prelude.{◌≡◌, ◌≢◌};
 ghost use Rattle.std.specs.IoError.{error_kind};
 
 use es_files::{RealErr, RealFiles, RealOut};
-use es_host::{Kit, Rule};
+use es_host::{EachNode, Kit, Rule};
 use es_rules_plain::NoDebugger;
 use es_run::{Status, StopCause};
 use es_text::NoMemory;
@@ -34,7 +34,7 @@ fn main(rt: HostRuntime) -> ExitCode {
 fn lint(rt: &HostRuntime, arguments: &[String]) -> Result<Status, NoMemory> {
     let alloc = rt.alloc();
     let mut rules: Vec<Box<dyn Rule + Send>> = Vec::new(alloc);
-    rules.push(Box::new(alloc, NoDebugger::new(alloc)?)?)?;
+    rules.push(Box::new(alloc, EachNode::new(alloc, NoDebugger))?)?;
     let mut kits = Vec::new(alloc);
     kits.push(Kit::new(rules))?;
     let mut files = RealFiles::new(rt);

@@ -1,7 +1,11 @@
-use crate::watch::Watch;
+ghost use Rattle.std.specs.Prelude.{◌≡◌, ◌≤◌, ◌<◌, ◌^◌, All, [], length, IfOk};
+ghost use Rattle.es_config.specs.declared.verdict.Verdict.TheVariants.{Fine};
+ghost use Rattle.es_host.specs.Kits.{NeedsNoOptions};
+
+use crate::watch::{WatchEmpty, WatchNames};
 use es_files::{MemoryFiles, MemorySink, Sink, SinkFault, SureSink};
-use es_host::{Kit, Rule};
-use es_rules_plain::NoDebugger;
+use es_host::{EachFile, EachNode, Kit, Rule};
+use es_rules_plain::{EolLast, NoDebugger};
 use es_run::{Status, run, status_code};
 use std::alloc::Global;
 use std::process::Abort;
@@ -24,36 +28,36 @@ fn name_alone(alloc: Global, name: &str) -> Result<Vec<String>, Fail> {
     Ok(arguments)
 }
 
-/// What a run over the file of this name answers. A run needs a kit: without one none is made.
-fn status_of<O: Sink, E: Sink>(
+/// What a run over the file of this name answers.
+fn status_of<R: Rule, O: Sink, E: Sink>(
     alloc: Global,
-    kits: &mut Vec<Kit<Box<dyn Rule + Send>>>,
+    kits: &mut Vec<Kit<R>>,
     files: &mut MemoryFiles,
     name: &str,
     out: &mut O,
     err: &mut E,
-) -> Result<Status, Fail> {
+) -> Result<Status, Fail>
+    requires kits { 1 ≤ length kits.old.items }
+    requires options { All (NeedsNoOptions R.meaning) kits.old.items }
+    ensures kits { length kits.new.items ≡ length kits.old.items }
+    ensures options { All (NeedsNoOptions R.meaning) kits.new.items }
+{
     let arguments = name_alone(alloc, name)?;
-    if kits.is_empty() {
-        return Ok(Status::NoMemory);
-    }
     Ok(run(alloc, arguments.as_slice(), kits, files, out, err))
-}
-
-/// How often the first kit listened.
-fn lints_of(kits: &[Kit<Box<dyn Rule + Send>>]) -> u64 {
-    kits.first().map_or(0, |kit| kit.lints())
 }
 
 /// Runs the rules over the file of this name. The output takes the first `left` bytes of its first
 /// call, which then fails.
-fn run_over(
+fn run_over<R: Rule>(
     alloc: Global,
-    rules: Vec<Box<dyn Rule + Send>>,
+    rules: Vec<R>,
     files: &mut MemoryFiles,
     name: &str,
     left: Option<u64>,
-) -> Result<Ran, Fail> {
+) -> Result<Ran, Fail>
+    requires few { length rules.items < 2 ^ 32 }
+    requires options { All (λ rule. (R.meaning rule).verdict [] ≡ Fine) rules.items }
+{
     let mut kits = Vec::new(alloc);
     kits.push(Kit::new(rules))?;
     let mut out = MemorySink::new(alloc)?;
@@ -62,7 +66,7 @@ fn run_over(
         out.fail(alloc, 1, left)?;
     }
     let status = status_of(alloc, &mut kits, files, name, &mut out, &mut err)?;
-    let lints = lints_of(&kits);
+    let lints = kits[0].lints();
     Ok(Ran {
         status,
         out,
@@ -72,9 +76,11 @@ fn run_over(
 }
 
 /// The rule of the program.
-fn plain_rules(alloc: Global) -> Result<Vec<Box<dyn Rule + Send>>, Fail> {
-    let mut rules: Vec<Box<dyn Rule + Send>> = Vec::new(alloc);
-    rules.push(Box::new(alloc, NoDebugger::new(alloc)?)?)?;
+fn plain_rules(alloc: Global) -> Result<Vec<EachNode<NoDebugger>>, Fail>
+    ensures { IfOk result (λ rules. length rules.items ≡ 1) }
+{
+    let mut rules = Vec::new(alloc);
+    rules.push(EachNode::new(alloc, NoDebugger))?;
     Ok(rules)
 }
 
@@ -194,11 +200,29 @@ static TWO_RULES: &str = "
 fn reports_of_two_rules_stand_by_their_places(rt: HostRuntime) -> Result<(), Fail> {
     let alloc = rt.alloc();
     let mut rules: Vec<Box<dyn Rule + Send>> = Vec::new(alloc);
-    rules.push(Box::new(alloc, Watch::new(alloc, "empty", false, 0)?)?)?;
-    rules.push(Box::new(alloc, Watch::new(alloc, "name", true, 0)?)?)?;
+    rules.push(Box::new(alloc, EachNode::new(alloc, WatchEmpty))?)?;
+    rules.push(Box::new(alloc, EachNode::new(alloc, WatchNames { refusals: 0 }))?)?;
     let mut files = files_of(alloc, "é.js", "a;;\n\n\n\n\n\n\n\n\n b")?;
     let ran = run_over(alloc, rules, &mut files, "é.js", None)?;
     expect(&rt, &ran, 1, TWO_RULES, "");
+    Ok(())
+}
+
+static NO_NEWLINE: &str = "
+a.js
+  1:4  error  Newline required at end of file but not found.  eol-last
+
+✖ 1 problem (1 error, 0 warnings)
+";
+
+#[test]
+fn a_rule_of_files(rt: HostRuntime) -> Result<(), Fail> {
+    let alloc = rt.alloc();
+    let mut rules = Vec::new(alloc);
+    rules.push(EachFile::new(EolLast))?;
+    let mut files = files_of(alloc, "a.js", "a;;")?;
+    let ran = run_over(alloc, rules, &mut files, "a.js", None)?;
+    expect(&rt, &ran, 1, NO_NEWLINE, "");
     Ok(())
 }
 
@@ -207,7 +231,7 @@ fn reports_of_two_rules_stand_by_their_places(rt: HostRuntime) -> Result<(), Fai
 fn a_kit_listens_again(rt: HostRuntime) -> Result<(), Fail> {
     let alloc = rt.alloc();
     let mut rules: Vec<Box<dyn Rule + Send>> = Vec::new(alloc);
-    rules.push(Box::new(alloc, Watch::new(alloc, "name", true, 1)?)?)?;
+    rules.push(Box::new(alloc, EachNode::new(alloc, WatchNames { refusals: 1 }))?)?;
     let mut kits = Vec::new(alloc);
     kits.push(Kit::new(rules))?;
     let mut files = files_of(alloc, "a.js", "a;\n")?;
@@ -216,14 +240,15 @@ fn a_kit_listens_again(rt: HostRuntime) -> Result<(), Fail> {
     let second = status_of(alloc, &mut kits, &mut files, "a.js", &mut out, &mut err)?;
     assert_eq!(rt; status_code(&first), 3);
     assert_eq!(rt; status_code(&second), 1);
-    assert_eq!(rt; lints_of(&kits), 2);
+    assert_eq!(rt; kits[0].lints(), 2);
     Ok(())
 }
 
 #[test]
 fn a_kit_without_rules_finds_nothing(rt: HostRuntime) -> Result<(), Fail> {
     let mut files = files_of(rt.alloc(), "a.js", "debugger;")?;
-    let ran = run_over(rt.alloc(), Vec::new(rt.alloc()), &mut files, "a.js", None)?;
+    let rules: Vec<EachNode<NoDebugger>> = Vec::new(rt.alloc());
+    let ran = run_over(rt.alloc(), rules, &mut files, "a.js", None)?;
     expect(&rt, &ran, 0, "", "");
     assert_eq!(rt; ran.lints, 1);
     Ok(())

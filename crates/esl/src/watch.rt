@@ -1,100 +1,109 @@
-//! A rule for tests, which says where each node of one kind stands.
-ghost use Rattle.std.specs.Prelude.{◌≡◌, map, None, IfOk};
-
-use es_host::{Ctx, Rule};
-use es_text::{Finding, NoMemory, Span, Txt};
+//! Rules for tests, which say where each node of one kind stands. Their messages are their ids.
+use es_config::Verdict;
+use es_host::{Ctx, NodeRule, no_options, of_kinds};
+use es_selectors::Selector;
+use es_text::{Finding, NoMemory};
 use es_tree::kind;
+use serde_json::Value;
 use std::alloc::Global;
 
-/// Says the span of each name, or else of each empty statement. Its message is its id.
+/// Says the span of each empty statement.
 #[derive(Drop)]
-pub(crate) struct Watch {
-    id: Txt,
-    names: bool,
-    spans: Vec<Span>,
-    /// How often it still answers that it is out of memory.
-    refusals: u32,
-}
+pub(crate) struct WatchEmpty;
 
-impl Watch {
-    pub(crate) fn new(
-        alloc: Global,
-        id: &str,
-        names: bool,
-        refusals: u32,
-    ) -> Result<Watch, NoMemory> {
-        Ok(Watch {
-            id: Txt::new(alloc, id)?,
-            names,
-            spans: Vec::new(alloc),
-            refusals,
-        })
-    }
-}
+impl NodeRule for WatchEmpty {
+    ghost use Rattle.std.specs.Prelude.{[], ◌∷◌, None, codes};
+    ghost use Rattle.es_tree.specs.declared.kind.TheConstants.{EMPTY_STATEMENT};
+    ghost use Rattle.es_host.specs.Files.{rows_in};
+    ghost use Rattle.es_host.specs.Nodes.{found, of_kind, span_at, takes_none};
 
-impl Rule for Watch {
-    ghost use Rattle.std.specs.Prelude.{◌≡◌, ◌∷◌, [], length, map, Some, None, unwrap_or, if◌then◌else◌};
-    ghost use Rattle.es_tree.specs.declared.kind.TheConstants.{EMPTY_STATEMENT, IDENTIFIER};
-    ghost use Rattle.es_host.specs.Events.{entered_span};
-    ghost use Rattle.es_host.specs.Lawful.{entries};
+    ghost meaning = { record {
+      id = codes "empty";
+      verdict = takes_none;
+      interest = λ options. of_kind EMPTY_STATEMENT ∷ [];
+      finds = λ file options node which. found (span_at (rows_in file) node) (codes "empty") None ∷ [];
+    } };
 
-    ghost id = { λ rule. rule.id };
-
-    ghost interest = { λ rule. (if rule.names then IDENTIFIER ∷ [] else EMPTY_STATEMENT ∷ []) };
-
-    ghost says = { λ rule file. map (λ event. record {
-      span = unwrap_or (entered_span file event) (record { start = 0; end = 0 });
-      text = rule.id;
-      fix = None;
-    })
-        (entries file.rows (if rule.names then IDENTIFIER ∷ [] else EMPTY_STATEMENT ∷ [])
-        (length file.rows)) };
-
-    ghost heard = { λ rule file events.
-        map (λ span. Some span) rule.spans.items ≡ map (entered_span file) events };
+    ghost keeps = { λ _ _. Unit {0} };
 
     fn id(&self) -> &str {
-        self.id.as_str()
+        "empty"
     }
 
-    fn begin(&mut self, _alloc: Global) -> Result<(), NoMemory> {
-        self.spans.clear();
+    fn verdict(&self, _alloc: Global, options: &[Value]) -> Result<Verdict, NoMemory> {
+        Ok(no_options(options))
+    }
+
+    fn set(&mut self, _alloc: Global, _options: &[Value]) -> Result<(), NoMemory> {
         Ok(())
     }
 
-    fn interest(&self) -> &[u16] {
-        if self.names {
-            &[kind::IDENTIFIER]
-        } else {
-            &[kind::EMPTY_STATEMENT]
-        }
+    fn interest(&self, alloc: Global) -> Result<Vec<Selector>, NoMemory> {
+        of_kinds(alloc, &[kind::EMPTY_STATEMENT])
     }
 
-    fn on_node(&mut self, _alloc: Global, ctx: &Ctx, node: u32) -> Result<(), NoMemory> {
+    fn judge(
+        &self,
+        alloc: Global,
+        ctx: &Ctx,
+        node: u32,
+        _which: u32,
+        findings: &mut Vec<Finding>,
+    ) -> Result<(), NoMemory> {
+        ctx.report_node(alloc, node, "empty", findings)
+    }
+}
+
+/// Says the span of each name.
+#[derive(Drop)]
+pub(crate) struct WatchNames {
+    /// How often it still answers that it is out of memory.
+    pub(crate) refusals: u32,
+}
+
+impl NodeRule for WatchNames {
+    ghost use Rattle.std.specs.Prelude.{[], ◌∷◌, None, codes};
+    ghost use Rattle.es_tree.specs.declared.kind.TheConstants.{IDENTIFIER};
+    ghost use Rattle.es_host.specs.Files.{rows_in};
+    ghost use Rattle.es_host.specs.Nodes.{found, of_kind, span_at, takes_none};
+
+    ghost meaning = { record {
+      id = codes "name";
+      verdict = takes_none;
+      interest = λ options. of_kind IDENTIFIER ∷ [];
+      finds = λ file options node which. found (span_at (rows_in file) node) (codes "name") None ∷ [];
+    } };
+
+    ghost keeps = { λ _ _. Unit {0} };
+
+    fn id(&self) -> &str {
+        "name"
+    }
+
+    fn verdict(&self, _alloc: Global, options: &[Value]) -> Result<Verdict, NoMemory> {
+        Ok(no_options(options))
+    }
+
+    fn set(&mut self, _alloc: Global, _options: &[Value]) -> Result<(), NoMemory> {
         if self.refusals > 0 {
             self.refusals -= 1;
             return Err(NoMemory);
         }
-        self.spans.push(ctx.tree.span(node))?;
         Ok(())
     }
 
-    fn finish(&mut self, alloc: Global, _ctx: &Ctx) -> Result<Vec<Finding>, NoMemory> {
-        findings_at(alloc, &self.id, self.spans.as_slice())
+    fn interest(&self, alloc: Global) -> Result<Vec<Selector>, NoMemory> {
+        of_kinds(alloc, &[kind::IDENTIFIER])
     }
-}
 
-fn findings_at(alloc: Global, text: &Txt, spans: &[Span]) -> Result<Vec<Finding>, NoMemory>
-    ensures { IfOk result (λ findings. findings.items
-        ≡ map (λ span. record { span = span; text = text.now; fix = None }) spans.now) }
-{
-    let mut findings = Vec::new(alloc);
-    for span in spans {
-        findings.push(Finding {
-            span: *span,
-            text: text.copy(alloc)?,
-            fix: None,
-        })?;
+    fn judge(
+        &self,
+        alloc: Global,
+        ctx: &Ctx,
+        node: u32,
+        _which: u32,
+        findings: &mut Vec<Finding>,
+    ) -> Result<(), NoMemory> {
+        ctx.report_node(alloc, node, "name", findings)
     }
-    Ok(findings)
 }

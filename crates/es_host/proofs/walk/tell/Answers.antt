@@ -1,25 +1,14 @@
-use Rattle.std.proofs.Common.{◌≡◌, ◌∙◌, ◌+◌, ◌++◌, ◌∷◌, [], true, false, ap, sym, subst, eqb}
-use Rattle.std.specs.List.{list_any}
-use Rattle.es_host.specs.Events.{Enter, file_of}
-use Rattle.es_host.specs.Lawful.{entries, hears, is_one_of}
-use Rattle.es_host.proofs.LawfulLemmas.{entries-heard, entries-passed}
+use Rattle.std.proofs.Common.{◌≡◌, ◌∙◌, true, [], ap, sym}
+use Rattle.es_host.proofs.LawfulLemmas.{hears-asked}
+use Rattle.es_host.specs.Files.{file_of, rows_in}
+use Rattle.es_host.specs.Lawful.{hears}
+use Rattle.es_host.specs.Walk.{moment}
 use Rattle.es_host.proofs.walk.tell.Goals as goal
 
-pub returns-in_ok-on_node-clause-heard : goal.returns-in_ok-on_node-clause-heard
-returns-in_ok-on_node-clause-heard g c =
-    let asked : hears c.args.ctx.now.tree.now (g.R.Rule.interest c.args.rule.now) c.args.node ≡ true =
-    ap (is_one_of (g.R.Rule.interest c.args.rule.now)) c.kind-kind.ensures
-    ∙ sym (ap (list_any (λ k. eqb k c.kind-kind.result)) c.interest.ensures.kinds) ∙ sym c.contains-asked.ensures.value ∙ c.if-asked.true in
-    let before = entries c.args.ctx.now.tree.now (g.R.Rule.interest c.args.rule.now) c.args.node in
-    let same : before ++ Enter c.args.node c.args.ctx.now.ancestors.now ∷ [] ≡ entries c.args.ctx.now.tree.now (g.R.Rule.interest c.args.rule.now) (c.args.node + 1) =
-    ap (λ path. before ++ Enter c.args.node path ∷ []) c.requires.ancestors
-    ∙ sym (entries-heard c.args.ctx.now.tree.now (g.R.Rule.interest c.args.rule.now) c.args.node asked) in
-    λ heard. subst (g.R.Rule.heard c.on_node.new.self (file_of c.args.ctx.now)) same (c.in_ok-on_node.ensures.more before heard)
-
-pub returns-else-asked-clause-heard : goal.returns-else-asked-clause-heard
-returns-else-asked-clause-heard g c =
-    let passed : hears c.args.ctx.now.tree.now (g.R.Rule.interest c.args.rule.now) c.args.node ≡ false =
-    ap (is_one_of (g.R.Rule.interest c.args.rule.now)) c.kind-kind.ensures
-    ∙ sym (ap (list_any (λ k. eqb k c.kind-kind.result)) c.interest.ensures.kinds) ∙ sym c.contains-asked.ensures.value ∙ c.if-asked.false in
-    λ heard. subst (g.R.Rule.heard c.args.rule.now (file_of c.args.ctx.now))
-    (sym (entries-passed c.args.ctx.now.tree.now (g.R.Rule.interest c.args.rule.now) c.args.node passed)) heard
+pub on_node-requires-clause-asked : goal.on_node-requires-clause-asked
+on_node-requires-clause-asked g c = λ options events heard.
+    let rows = rows_in (file_of c.args.ctx.now) in
+    let is : hears rows ((g.R.Rule.meaning c.args.rule.now).interest options) (moment c.args.leaves [] c.args.node) c.args.which ≡ true =
+    ap (λ interest. hears rows interest (moment c.args.leaves [] c.args.node) c.args.which) (sym (c.interest.ensures (file_of c.args.ctx.now) options events heard))
+    ∙ sym (c.hears.ensures []) ∙ c.if-hears.true in
+    hears-asked rows ((g.R.Rule.meaning c.args.rule.now).interest options) (moment c.args.leaves [] c.args.node) c.args.which is

@@ -1,14 +1,16 @@
-use Rattle.std.proofs.Common.{◌+◌}
-use Rattle.std.specs.List.{All}
-use Rattle.es_host.proofs.KitsLemmas.{Before, From}
-use Rattle.es_host.specs.Events.{file_of}
-use Rattle.es_host.specs.Kits.{SameRules}
-use Rattle.es_host.specs.Lawful.{entries}
+use Rattle.std.proofs.Common.{◌≡◌, ◌++◌, List, map, take}
+use Rattle.es_host.specs.Files.{file_of, rows_in}
+use Rattle.es_host.specs.Hearing.{EachHeard, events_of}
+use Rattle.es_host.specs.Listeners.{told_by}
+use Rattle.es_host.specs.Meanings.{interest_at}
+use Rattle.es_host.specs.Walk.{Moment, moment}
 use Rattle.es_host.proofs.walk.tell_all.Given as goal
 
-abbrev pub invariant-loop-i : goal.invariant-loop-i
-invariant-loop-i g l =
-    SameRules g.R.Rule.id g.R.Rule.interest g.R.Rule.says l.rules l.fn.rules
-    × (All (λ rule. g.R.Rule.heard rule (file_of l.ctx) (entries l.ctx.tree.now (g.R.Rule.interest rule) l.node)) l.fn.rules
-    → Before (λ rule. g.R.Rule.heard rule (file_of l.ctx) (entries l.ctx.tree.now (g.R.Rule.interest rule) (l.node + 1))) l.i l.rules
-    × From (λ rule. g.R.Rule.heard rule (file_of l.ctx) (entries l.ctx.tree.now (g.R.Rule.interest rule) l.node)) l.i l.rules)
+abbrev pub invariant-loop-listener : goal.invariant-loop-listener
+invariant-loop-listener g l =
+    let file = file_of l.ctx in
+    let meanings = map g.R.Rule.meaning l.fn.rules in
+    (map g.R.Rule.meaning l.rules ≡ meanings)
+    × ((moments : List Moment) → EachHeard g.R.Rule.heard file (events_of meanings file moments) l.fn.rules
+    → EachHeard g.R.Rule.heard file (λ k. events_of meanings file moments k
+    ++ told_by (rows_in file) (interest_at meanings file k) (moment l.leaves l.ctx.ancestors.now l.node) k (take l.listener-index l.listeners)) l.rules)

@@ -13,6 +13,6 @@ returns-in-Err-clause-fresh g c = λ held told. rw c.fault_of.ensures
 pub returns-clause-fresh : goal.returns-clause-fresh
 returns-clause-fresh g c = λ held told.
     report_answer _ c.in-Some.file.now c.in-Ok.bytes.items c.in_ok-report_on.field-0 c.in-Some.ensures (c.in-Ok.ensures.ok held told) c.in-Ok.ensures.within
-    (subst (λ bytes. IsReportOn (first_says g.R.Rule.id g.R.Rule.says c.args.kits.now.items) c.in-Some.file.now bytes c.in_ok-report_on.field-0) c.as_slice.ensures.value
+    (subst (λ bytes. IsReportOn (first_says g.R.Rule.meaning c.args.kits.now.items) c.in-Some.file.now bytes c.in_ok-report_on.field-0) c.as_slice.ensures.value
     (subst (λ says. IsReportOn says c.in-Some.file.now c.as_slice.result.now c.in_ok-report_on.field-0)
-    (first_kit g.R.Rule.id g.R.Rule.says c.args.kits.now.items c.index_mut.result.now c.requires c.index_mut.ensures.value) c.in_ok-report_on.ensures.report))
+    (first_kit g.R.Rule.meaning c.args.kits.now.items c.index_mut.result.now c.requires.kits c.index_mut.ensures.value) c.in_ok-report_on.ensures.report))

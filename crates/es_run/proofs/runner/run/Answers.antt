@@ -21,7 +21,7 @@ returns-in-Ok-clause-no_more g c = λ is held told.
 pub returns-in-Err-Stop-clause-fresh : goal.returns-in-Err-Stop-clause-fresh
 returns-in-Err-Stop-clause-fresh g c = λ settled held told.
     stopped_does _ c.refuse.result c.in-Err-Stop.cause _ _ _
-    (subst (λ fault. Foretells (given (first_says g.R.Rule.id g.R.Rule.says c.args.kits.now.items) c.args.words.now held) (Err fault))
+    (subst (λ fault. Foretells (given (first_says g.R.Rule.meaning c.args.kits.now.items) c.args.words.now held) (Err fault))
     c.in-Err-Stop.field-0-is (c.in-Err-Stop.ensures.fresh held told))
     c.refuse.ensures.status c.refuse.ensures.told settled
 

@@ -1,0 +1,21 @@
+use es_config::FileConfig;
+use es_text::Source;
+use es_tree::Parsed;
+
+/// A file that is linted. It is whole where `parsed` is what the text of `source` is parsed as, under the
+/// source type that is set.
+#[derive(Drop)]
+pub struct FileView<'a> {
+    pub source: &'a Source,
+    pub parsed: &'a Parsed,
+    pub config: &'a FileConfig,
+}
+
+/// What a rule may look at while it is called.
+#[derive(Drop)]
+pub struct Ctx<'a> {
+    pub file: &'a FileView<'a>,
+    /// While a node is told, the numbers of the nodes above it, from the Program down to its parent;
+    /// else empty.
+    pub ancestors: &'a [u32],
+}

@@ -1,0 +1,121 @@
+//! What rules are written with.
+ghost use Rattle.std.specs.Prelude.{◌≡◌, ◌<◌, ◌∷◌, ◌++◌, [], None, length, map, IfOk, IsTrue, OnOk};
+ghost use Rattle.es_text.specs.Spans.{is_part};
+ghost use Rattle.es_text.specs.Texts.{text_bytes};
+ghost use Rattle.es_config.specs.Settings.{options_of};
+ghost use Rattle.es_host.specs.Files.{IsWhole, file_of, rows_in};
+ghost use Rattle.es_host.specs.Nodes.{found, is_plain, of_kind, parent_kind, span_at, takes_none};
+ghost use Rattle.es_host.specs.Spans.{findings_fit, fix_fits};
+
+use crate::file::Ctx;
+use es_config::Verdict;
+use es_selectors::{Atom, Chain, Selector, Spelling};
+use es_text::{Finding, Fix, Items, NoMemory, Span, Txt};
+use serde_json::Value;
+use std::alloc::Global;
+
+/// The verdict of a rule that takes no options.
+pub fn no_options(options: &[Value]) -> Verdict
+    ensures { result ≡ takes_none (options_of options.now) }
+{
+    if options.is_empty() {
+        Verdict::Fine
+    } else {
+        Verdict::BadOption
+    }
+}
+
+/// The selector of the nodes of this kind.
+pub fn of_kind(alloc: Global, kind: u16) -> Result<Selector, NoMemory>
+    ensures { IfOk result (λ selector. selector ≡ of_kind kind) }
+{
+    let mut compound = Items::new(alloc);
+    compound.push(Atom::Kind(Some(kind)))?;
+    let mut chains = Items::new(alloc);
+    chains.push(Chain {
+        first: compound,
+        links: Items::new(alloc),
+    })?;
+    Ok(Selector::new(Spelling {
+        chains,
+        exit: false,
+    }))
+}
+
+/// The selectors of the nodes of these kinds, one for each.
+pub fn of_kinds(alloc: Global, kinds: &[u16]) -> Result<Vec<Selector>, NoMemory>
+    ensures { IfOk result (λ selectors. selectors.items ≡ map of_kind kinds.now) }
+{
+    let mut selectors = Vec::new(alloc);
+    for kind in kinds {
+        selectors.push(of_kind(alloc, *kind)?)?;
+    }
+    Ok(selectors)
+}
+
+/// A copy of a text of ASCII, whose bytes are its characters.
+#[tactic(auto, using(crate::proofs::NodesLemmas::chars_plain))]
+pub fn plain(alloc: Global, text: &str) -> Result<Txt, NoMemory>
+    requires { IsTrue (is_plain text.now) }
+    ensures { IfOk result (λ txt. txt ≡ text.now) }
+{
+    Txt::new(alloc, text)
+}
+
+impl Ctx<'_> {
+    /// The bytes of the text that the node covers.
+    pub fn span(&self, node: u32) -> Span
+        requires whole { IsWhole (file_of self.now) }
+        requires node { node < length (rows_in (file_of self.now)) }
+        ensures span { result ≡ span_at (rows_in (file_of self.now)) node }
+        ensures inside { IsTrue (is_part (text_bytes (file_of self.now).text) result) }
+    {
+        self.file.parsed.tree.span(node)
+    }
+
+    /// The kind of the node's parent, or `None` for the Program.
+    pub fn parent_kind(&self, node: u32) -> Option<u16>
+        requires { node < length (rows_in (file_of self.now)) }
+        ensures { result ≡ parent_kind (rows_in (file_of self.now)) node }
+    {
+        let parent = self.file.parsed.tree.parent(node)?;
+        Some(self.file.parsed.tree.kind(parent))
+    }
+
+    /// Puts what is said of a part of the text behind the findings.
+    pub fn report(
+        &self,
+        span: Span,
+        text: Txt,
+        fix: Option<Fix>,
+        findings: &mut Vec<Finding>,
+    ) -> Result<(), NoMemory>
+        requires span { IsTrue (is_part (text_bytes (file_of self.now).text) span) }
+        requires fix { IsTrue (fix_fits (text_bytes (file_of self.now).text) fix) }
+        ensures found { OnOk result (findings.new.items ≡ findings.old.items ++ found span text fix ∷ []) }
+        ensures inside { OnOk result (IsTrue (findings_fit (text_bytes (file_of self.now).text) findings.old.items)
+            → IsTrue (findings_fit (text_bytes (file_of self.now).text) findings.new.items)) }
+    {
+        findings.push(Finding { span, text, fix })?;
+        Ok(())
+    }
+
+    /// Puts what is said of a whole node, in ASCII, behind the findings.
+    pub fn report_node(
+        &self,
+        alloc: Global,
+        node: u32,
+        text: &str,
+        findings: &mut Vec<Finding>,
+    ) -> Result<(), NoMemory>
+        requires whole { IsWhole (file_of self.now) }
+        requires node { node < length (rows_in (file_of self.now)) }
+        requires plain { IsTrue (is_plain text.now) }
+        ensures found { OnOk result (findings.new.items
+            ≡ findings.old.items ++ found (span_at (rows_in (file_of self.now)) node) text.now None ∷ []) }
+        ensures inside { OnOk result (IsTrue (findings_fit (text_bytes (file_of self.now).text) findings.old.items)
+            → IsTrue (findings_fit (text_bytes (file_of self.now).text) findings.new.items)) }
+    {
+        self.report(self.span(node), plain(alloc, text)?, None, findings)
+    }
+}

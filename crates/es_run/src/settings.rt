@@ -1,0 +1,32 @@
+//! What a run sets for the linting of a file.
+ghost use Rattle.std.specs.Prelude.{◌≡◌, IfOk};
+ghost use Rattle.es_config.specs.Settings.{settings_of};
+ghost use Rattle.es_run.specs.Programs.{all_at_error};
+
+use es_config::{FileConfig, RuleSetting};
+use es_text::{Items, NoMemory, Severity, SourceType};
+use std::alloc::Global;
+
+/// Each of so many rules at error and without options, and for all else ESLint's defaults.
+pub(crate) fn config_at_error(
+    alloc: Global,
+    source_type: SourceType,
+    count: u32,
+) -> Result<FileConfig, NoMemory>
+    ensures { IfOk result (λ config. settings_of config ≡ all_at_error source_type count) }
+{
+    let mut rules = Vec::new(alloc);
+    for _ in 0..count {
+        rules.push(RuleSetting {
+            severity: Some(Severity::Error),
+            options: Items::new(alloc),
+        })?;
+    }
+    Ok(FileConfig {
+        source_type,
+        globals: Items::new(alloc),
+        inline: true,
+        unused: Some(Severity::Warn),
+        rules: Items::from_vec(rules),
+    })
+}
