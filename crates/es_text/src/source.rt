@@ -92,6 +92,32 @@ impl Source {
         Ok(Source::read(alloc, bytes)?)
     }
 
+    /// This text as it is, also where it begins with U+FEFF: no mark stands in front of it.
+    ///
+    /// `TooLong` where it has more than `MOST_BYTES` bytes. It takes time in their number, and memory
+    /// for the text.
+    pub fn from_text(alloc: Global, text: &str) -> Result<Source, SourceFault>
+        ensures ok { IfOk result (IsPlain (chars text.now)) }
+        ensures bytes { IfOk result (λ source. text_bytes source ≡ text.now) }
+        ensures short { OnOk result (length text.now ≤ most_bytes) }
+        ensures fault { IfErr result (TellsLength (length text.now)) }
+    {
+        if text.len() > MOST_BYTES {
+            return Err(SourceFault::TooLong {
+                bytes: text.len() as u64,
+            });
+        }
+        Ok(Source::copied(alloc, text)?)
+    }
+
+    fn copied(alloc: Global, text: &str) -> Result<Source, NoMemory>
+        requires { length text.now ≤ MOST_TEXT_BYTES }
+        ensures { IfOk result (IsPlain (chars text.now)) }
+    {
+        let text = String::from_str(alloc, text)?;
+        Source::of(alloc, text, false)
+    }
+
     fn read(alloc: Global, bytes: &[u8]) -> Result<Source, NoMemory>
         requires { length bytes.now ≤ MOST_BYTES }
         ensures { IfOk result (λ source. source ≡ text_of bytes.now) }

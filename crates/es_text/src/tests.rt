@@ -160,6 +160,16 @@ fn lengths(rt: HostRuntime) -> Result<(), Fail> {
     bytes.push(b'a')?;
     let fault = Source::new(rt.alloc(), bytes.as_slice()).err();
     assert_eq!(rt; fault, Some(SourceFault::TooLong { bytes: 2_097_153 }));
+    let again = Source::from_text(rt.alloc(), longest.text())?;
+    assert_eq!(rt; again.text(), longest.text());
+    let mut text = String::from_str(rt.alloc(), longest.text())?;
+    text.push('a')?;
+    let fault = Source::from_text(rt.alloc(), text.as_str()).err();
+    assert_eq!(rt; fault, Some(SourceFault::TooLong { bytes: 2_097_153 }));
+    let marked = Source::from_text(rt.alloc(), "\u{feff}a\n")?;
+    assert_eq!(rt; marked.text(), "\u{feff}a\n");
+    assert_eq!(rt; marked.marked(), false);
+    assert_eq!(rt; place_at(rt.alloc(), &marked, 4)?.as_str(), "1:3");
     Ok(())
 }
 
