@@ -12,7 +12,7 @@ use Rattle.std.proofs.lemmas.Slice.Eq.{bytes_eq-Decides}
 use Rattle.es_tree.specs.Rows.{Row}
 use Rattle.es_tree.specs.declared.kind.TheConstants.{IDENTIFIER}
 use Rattle.es_early.specs.Lookups.{declares_beside, declares_lexically, declares_name}
-use Rattle.es_early.specs.Around.{are_same, is_one_of, is_text, name_of, same_name}
+use Rattle.es_tree.specs.Around.{are_same, is_one_of, is_text, name_of, same_name}
 use Rattle.es_early.specs.declared.binding.Binding.{Binding}
 use Rattle.es_early.specs.declared.binding.Binding.TheVariants.{Lexical, Var, Function, Parameter, Nothing}
 use Rattle.es_early.specs.Declarations.{IsRedeclared, binding_of, counts_in, named_binding, declared_in, declares, is_lexical, is_lexical_binding, listed, scope_around}

@@ -6,10 +6,10 @@ use Rattle.std.proofs.lemmas.Bool.{and_from, and_parts}
 use Rattle.es_tree.specs.Rows.{Row}
 use Rattle.es_tree.specs.declared.kind.TheConstants.{SWITCH_CASE}
 use Rattle.es_early.specs.Lookups.{HasDefaults, is_default_of}
-use Rattle.es_early.specs.Around.{child, is_one_of, is_some, parent}
+use Rattle.es_tree.specs.Around.{child, is_one_of, is_some, parent}
 use Rattle.es_early.specs.Defaults.{IsSecondDefault, is_default}
 use Rattle.es_early.specs.Notes.{is_noted_before}
-use Rattle.es_early.specs.declared.field.TheConstants.{TEST}
+use Rattle.es_tree.specs.declared.field.TheConstants.{TEST}
 use Rattle.es_early.proofs.KindsLemmas.{one_of-within, is_some-gives, is_some-holds}
 use Rattle.es_early.proofs.NotesLemmas.{noted_before-gives, noted_before-holds}
 

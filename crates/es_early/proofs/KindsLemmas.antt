@@ -3,7 +3,7 @@ use Rattle.std.proofs.Common.{◌≡◌, ◌∙◌, ℕ, zero, suc, ◌<◌, Boo
 use Rattle.std.specs.Prelude.{◌==◌, ◌||◌, ◌⊎◌}
 use Rattle.std.specs.List.{list_any}
 use Rattle.es_tree.specs.Rows.{Row, kind_of}
-use Rattle.es_early.specs.Around.{is_among, is_one_of, is_some}
+use Rattle.es_tree.specs.Around.{is_among, is_one_of, is_some}
 
 kind_within : (rows : List Row) (node : ℕ) (kinds : List ℕ) → is_among kinds (kind_of rows node) ≡ true → node < length rows
 kind_within [] node kinds is = cc

@@ -1,4 +1,3 @@
-pub mod AroundLemmas
 pub mod DeclarationsLemmas
 pub mod DefaultsLemmas
 pub mod ErrorsLemmas

@@ -10,11 +10,11 @@ use Rattle.std.proofs.lemmas.Bool.{and_from, and_parts}
 use Rattle.es_tree.specs.Rows.{Row}
 use Rattle.es_tree.specs.declared.kind.TheConstants.{CLASS_BODY, PRIVATE_IDENTIFIER}
 use Rattle.es_early.specs.Lookups.{declares_named}
-use Rattle.es_early.specs.Around.{ancestors, are_same, is_one_of, is_some, is_text, name_of, parent, same_name, stands_as}
-use Rattle.es_early.specs.Kinds.{members}
+use Rattle.es_tree.specs.Around.{ancestors, are_same, is_one_of, is_some, is_text, name_of, parent, same_name, stands_as}
+use Rattle.es_tree.specs.Kinds.{members}
 use Rattle.es_early.specs.Notes.{HasFirsts, noted_at}
 use Rattle.es_early.specs.PrivateNames.{IsDeclaredPrivate, IsUndeclaredPrivate, declares_private, is_private_name, parent_of_some}
-use Rattle.es_early.specs.declared.field.TheConstants.{KEY}
+use Rattle.es_tree.specs.declared.field.TheConstants.{KEY}
 use Rattle.es_early.proofs.KindsLemmas.{any-gives, any-has, one_of-within}
 use Rattle.es_early.proofs.NotesLemmas.{first_of-is, first_of-is_some}
 

@@ -5,11 +5,11 @@ use Rattle.std.specs.Prelude.{ℕ, ◌<◌, Bool, true, false, not, ◌&&◌, �
 use Rattle.std.specs.List.{list_any}
 use Rattle.es_tree.specs.declared.kind.TheConstants.{ARRAY_PATTERN, ARROW_FUNCTION_EXPRESSION, ASSIGNMENT_PATTERN, BLOCK_STATEMENT, CATCH_CLAUSE, CLASS_DECLARATION, FOR_IN_STATEMENT, FOR_OF_STATEMENT, FOR_STATEMENT, FUNCTION_DECLARATION, FUNCTION_EXPRESSION, IDENTIFIER, IMPORT_DEFAULT_SPECIFIER, IMPORT_NAMESPACE_SPECIFIER, IMPORT_SPECIFIER, OBJECT_PATTERN, PROGRAM, PROPERTY, REST_ELEMENT, STATIC_BLOCK, SWITCH_STATEMENT, VARIABLE_DECLARATOR}
 use Rattle.es_tree.specs.Rows.{Row}
-use Rattle.es_early.specs.Around.{ancestors, is_one_of, is_text, parent, same_name, stands_as, stands_in, words_of}
+use Rattle.es_tree.specs.Around.{ancestors, is_one_of, is_text, parent, same_name, stands_as, stands_in, words_of}
 use Rattle.es_early.specs.Supers.{if_some, plain_functions}
 use Rattle.es_early.specs.declared.binding.Binding.{Binding}
 use Rattle.es_early.specs.declared.binding.Binding.TheVariants.{Lexical, Var, Function, Parameter, Nothing}
-use Rattle.es_early.specs.declared.field.TheConstants.{ARROW_BODY, CATCH_PARAMETER, DECLARATION_KIND, FUNCTION_BODY, ID, IMPORTED_LOCAL, LEFT, LOCAL, VALUE}
+use Rattle.es_tree.specs.declared.field.TheConstants.{ARROW_BODY, CATCH_PARAMETER, DECLARATION_KIND, FUNCTION_BODY, ID, IMPORTED_LOCAL, LEFT, LOCAL, VALUE}
 
 -- the node is a part of a pattern around it that BoundNames goes into
 abbrev pub is_pattern_part : List Row → ℕ → Bool

@@ -2,8 +2,8 @@
 use Rattle.std.specs.Prelude.{◌≡◌, ℕ, ◌<◌, Bool, ◌&&◌, List, [], ◌∷◌, Some, IsTrue, is_none}
 use Rattle.es_tree.specs.declared.kind.TheConstants.{SWITCH_CASE}
 use Rattle.es_tree.specs.Rows.{Row}
-use Rattle.es_early.specs.Around.{child, is_one_of, parent}
-use Rattle.es_early.specs.declared.field.TheConstants.{TEST}
+use Rattle.es_tree.specs.Around.{child, is_one_of, parent}
+use Rattle.es_tree.specs.declared.field.TheConstants.{TEST}
 
 -- the node is a DefaultClause: a case without a test
 abbrev pub is_default : List Row → ℕ → Bool

@@ -5,10 +5,10 @@ use Rattle.std.specs.Prelude.{ℕ, Bool, not, ◌&&◌, List, [], ◌∷◌, Opt
 use Rattle.std.specs.List.{list_any}
 use Rattle.es_tree.specs.declared.kind.TheConstants.{BREAK_STATEMENT, CONTINUE_STATEMENT}
 use Rattle.es_tree.specs.Rows.{Row}
-use Rattle.es_early.specs.Around.{child, is_one_of}
-use Rattle.es_early.specs.Kinds.{loops, loops_and_switches}
+use Rattle.es_tree.specs.Around.{child, is_one_of}
+use Rattle.es_tree.specs.Kinds.{loops, loops_and_switches}
 use Rattle.es_early.specs.Labels.{around_in_function, is_labelled, label_set}
-use Rattle.es_early.specs.declared.field.TheConstants.{LABEL}
+use Rattle.es_tree.specs.declared.field.TheConstants.{LABEL}
 
 -- a `break` with this label, or without one, aims at the statement around it
 abbrev pub ends_break : List Row → Option ℕ → ℕ → Bool

@@ -4,9 +4,9 @@ use Rattle.std.specs.Prelude.{ℕ, Bool, false, not, ◌&&◌, List, [], ◌∷�
 use Rattle.std.specs.List.{list_any}
 use Rattle.es_tree.specs.declared.kind.TheConstants.{LABELED_STATEMENT}
 use Rattle.es_tree.specs.Rows.{Row}
-use Rattle.es_early.specs.Around.{ancestors, before, child, is_one_of, parent, same_name, stands_as}
-use Rattle.es_early.specs.Kinds.{functions_and_static_blocks}
-use Rattle.es_early.specs.declared.field.TheConstants.{LABEL}
+use Rattle.es_tree.specs.Around.{ancestors, before, child, is_one_of, parent, same_name, stands_as}
+use Rattle.es_tree.specs.Kinds.{functions_and_static_blocks}
+use Rattle.es_tree.specs.declared.field.TheConstants.{LABEL}
 
 -- the nodes around a node inside of its function or static block
 abbrev pub around_in_function : List Row → ℕ → List ℕ

@@ -1,9 +1,7 @@
-pub mod Around
 pub mod Declarations
 pub mod Defaults
 pub mod Errors
 pub mod Jumps
-pub mod Kinds
 pub mod Labels
 pub mod Lookups
 pub mod Notes

@@ -5,7 +5,7 @@ use Rattle.std.specs.HashMap.{HashMap, get}
 use Rattle.std.specs.Option as std
 use Rattle.es_text.specs.declared.token.SourceType.{SourceType}
 use Rattle.es_tree.specs.Rows.{Row}
-use Rattle.es_early.specs.Around.{is_some, is_text, name_of, parent}
+use Rattle.es_tree.specs.Around.{is_some, is_text, name_of, parent}
 use Rattle.es_early.specs.declared.code.Early.{Early}
 use Rattle.es_early.specs.declared.firsts.Firsts.{Firsts}
 use Rattle.es_early.specs.Declarations.{declares, is_lexical}

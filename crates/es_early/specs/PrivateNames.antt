@@ -4,9 +4,9 @@ use Rattle.std.specs.Prelude.{ℕ, Bool, ◌&&◌, List, [], ◌∷◌, Option, 
 use Rattle.std.specs.List.{list_any}
 use Rattle.es_tree.specs.declared.kind.TheConstants.{CLASS_BODY, PRIVATE_IDENTIFIER}
 use Rattle.es_tree.specs.Rows.{Row}
-use Rattle.es_early.specs.Around.{ancestors, is_one_of, is_some, parent, same_name, stands_as}
-use Rattle.es_early.specs.Kinds.{members}
-use Rattle.es_early.specs.declared.field.TheConstants.{KEY}
+use Rattle.es_tree.specs.Around.{ancestors, is_one_of, is_some, parent, same_name, stands_as}
+use Rattle.es_tree.specs.Kinds.{members}
+use Rattle.es_tree.specs.declared.field.TheConstants.{KEY}
 
 abbrev pub is_private_name : List Row → ℕ → Bool
 is_private_name rows node = is_one_of (PRIVATE_IDENTIFIER ∷ []) rows node

@@ -5,8 +5,8 @@ use Rattle.es_text.specs.declared.token.SourceType.{SourceType}
 use Rattle.es_text.specs.declared.token.SourceType.TheVariants.{Module, Commonjs, Script}
 use Rattle.es_tree.specs.declared.kind.TheConstants.{RETURN_STATEMENT}
 use Rattle.es_tree.specs.Rows.{Row}
-use Rattle.es_early.specs.Around.{ancestors, is_one_of}
-use Rattle.es_early.specs.Kinds.{functions, functions_and_static_blocks}
+use Rattle.es_tree.specs.Around.{ancestors, is_one_of}
+use Rattle.es_tree.specs.Kinds.{functions, functions_and_static_blocks}
 
 -- the innermost function or static block around the node. A statement stands in the value of a field of
 -- a class only inside of one of these

@@ -5,8 +5,8 @@ use Rattle.std.specs.Prelude.{ℕ, Bool, false, not, ◌&&◌, ◌||◌, List, [
 use Rattle.std.specs.Option.{is_some}
 use Rattle.es_tree.specs.declared.kind.TheConstants.{CALL_EXPRESSION, FUNCTION_DECLARATION, FUNCTION_EXPRESSION, METHOD_DEFINITION, PROPERTY, PROPERTY_DEFINITION, STATIC_BLOCK, SUPER}
 use Rattle.es_tree.specs.Rows.{Row}
-use Rattle.es_early.specs.Around.{ancestors, child, is_one_of, is_set, is_text, parent, stands_as, words_of}
-use Rattle.es_early.specs.declared.field.TheConstants.{CALLEE, MEMBER_KIND, METHOD, SUPER_CLASS, VALUE}
+use Rattle.es_tree.specs.Around.{ancestors, child, is_one_of, is_set, is_text, parent, stands_as, words_of}
+use Rattle.es_tree.specs.declared.field.TheConstants.{CALLEE, MEMBER_KIND, METHOD, SUPER_CLASS, VALUE}
 
 abbrev pub plain_functions : List ℕ
 plain_functions = FUNCTION_DECLARATION ∷ FUNCTION_EXPRESSION ∷ []

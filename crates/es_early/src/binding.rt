@@ -6,19 +6,17 @@ ghost use Rattle.es_early.specs.Declarations.{is_var, is_var_declarator, pattern
 ghost use Rattle.es_early.specs.Declarations.{pattern_declares, some_pattern_declares};
 ghost use Rattle.es_early.specs.Supers.{if_some};
 
-use crate::ancestors::Ancestors;
-use crate::around::{has_words, is_one_of, parent, stands_as, stands_in};
-use crate::field::{
+use es_tree::field::{
     ARROW_BODY, CATCH_PARAMETER, DECLARATION_KIND, FUNCTION_BODY, ID, IMPORTED_LOCAL, LEFT, LOCAL,
     VALUE,
 };
-use crate::kinds::PLAIN_FUNCTIONS;
-use es_tree::Tree;
 use es_tree::kind::{
     ARRAY_PATTERN, ARROW_FUNCTION_EXPRESSION, ASSIGNMENT_PATTERN, CATCH_CLAUSE, CLASS_DECLARATION,
     FUNCTION_DECLARATION, IDENTIFIER, IMPORT_DEFAULT_SPECIFIER, IMPORT_NAMESPACE_SPECIFIER,
     IMPORT_SPECIFIER, OBJECT_PATTERN, PROPERTY, REST_ELEMENT, VARIABLE_DECLARATOR,
 };
+use es_tree::kinds::PLAIN_FUNCTIONS;
+use es_tree::{Ancestors, Tree, has_words, is_one_of, parent, stands_as, stands_in};
 
 /// What declares a name.
 #[derive(Clone, Copy, Debug, PartialEq, Eq)]

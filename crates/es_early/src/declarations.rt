@@ -9,13 +9,12 @@ ghost use Rattle.es_early.specs.Declarations.{IsRedeclared, binding_of};
 ghost use Rattle.es_early.specs.Declarations.{is_lexical, is_lexical_binding};
 ghost use Rattle.es_early.specs.Notes.{HasFirsts, is_noted_before, noted, noted_at};
 
-use crate::around::words;
 use crate::binding::{Binding, binding_of};
-use crate::field::NAME;
 use crate::notes::{note, was_noted, was_noted_before};
 use crate::scopes::{counts_in, declared_in, scope_around};
 use es_text::NoMemory;
-use es_tree::Tree;
+use es_tree::field::NAME;
+use es_tree::{Tree, words};
 use std::alloc::Global;
 use std::collections::HashMap;
 

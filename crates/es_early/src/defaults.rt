@@ -5,12 +5,11 @@ ghost use Rattle.es_early.specs.Lookups.{HasDefaults, is_default_of};
 ghost use Rattle.es_early.specs.Defaults.{IsSecondDefault, is_default};
 ghost use Rattle.es_early.specs.Notes.{noted};
 
-use crate::around::{child, is_one_of, parent};
-use crate::field::TEST;
 use crate::notes::{note, was_noted_before};
 use es_text::NoMemory;
-use es_tree::Tree;
+use es_tree::field::TEST;
 use es_tree::kind::SWITCH_CASE;
+use es_tree::{Tree, child, is_one_of, parent};
 use std::alloc::Global;
 use std::collections::HashMap;
 

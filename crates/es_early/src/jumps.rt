@@ -4,13 +4,11 @@ ghost use Rattle.std.specs.List.{list_any};
 ghost use Rattle.es_early.specs.Jumps.{continues_at, ends_break, is_stray_break, is_stray_continue};
 ghost use Rattle.es_early.specs.Labels.{around_in_function};
 
-use crate::ancestors::Ancestors;
-use crate::around::{child, is_one_of};
-use crate::field::LABEL;
-use crate::kinds::{FUNCTIONS_AND_STATIC_BLOCKS, LOOPS, LOOPS_AND_SWITCHES};
 use crate::labels::{is_in_label_set, is_labelled};
-use es_tree::Tree;
+use es_tree::field::LABEL;
 use es_tree::kind::{BREAK_STATEMENT, CONTINUE_STATEMENT};
+use es_tree::kinds::{FUNCTIONS_AND_STATIC_BLOCKS, LOOPS, LOOPS_AND_SWITCHES};
+use es_tree::{Ancestors, Tree, child, is_one_of};
 
 /// Whether a `break` with this label, or without one, aims at the statement around it.
 fn ends_break(tree: &Tree, label: Option<u32>, statement: u32) -> bool

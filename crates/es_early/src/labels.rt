@@ -4,12 +4,10 @@ ghost use Rattle.std.specs.List.{list_any};
 ghost use Rattle.es_early.specs.Labels.{around_in_function, is_around, is_doubled_label};
 ghost use Rattle.es_early.specs.Labels.{is_labelled, is_named, label_set};
 
-use crate::ancestors::Ancestors;
-use crate::around::{child, is_one_of, parent, same_name, stands_as};
-use crate::field::LABEL;
-use crate::kinds::FUNCTIONS_AND_STATIC_BLOCKS;
-use es_tree::Tree;
+use es_tree::field::LABEL;
 use es_tree::kind::LABELED_STATEMENT;
+use es_tree::kinds::FUNCTIONS_AND_STATIC_BLOCKS;
+use es_tree::{Ancestors, Tree, child, is_one_of, parent, same_name, stands_as};
 
 /// Whether there is a name, and the node has the same.
 fn is_named(tree: &Tree, node: u32, named: Option<u32>) -> bool

@@ -1,17 +1,13 @@
 //! The early errors of a tree (ECMA-262, 13th edition), of which the first is found.
 #![tactic(auto)]
 
-mod ancestors;
-mod around;
 mod binding;
 mod code;
 mod declarations;
 mod defaults;
-mod field;
 mod first_error;
 mod firsts;
 mod jumps;
-mod kinds;
 mod labels;
 mod law;
 mod notes;

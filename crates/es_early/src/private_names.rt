@@ -4,19 +4,17 @@ ghost use Rattle.std.specs.List.{list_any};
 ghost use Rattle.std.specs.Option.{is_some};
 ghost use Rattle.es_tree.specs.declared.kind.TheConstants.{CLASS_BODY};
 ghost use Rattle.es_early.specs.Lookups.{declares_named};
-ghost use Rattle.es_early.specs.Around.{ancestors, is_one_of};
+ghost use Rattle.es_tree.specs.Around.{ancestors, is_one_of};
 ghost use Rattle.es_early.specs.Notes.{HasFirsts, noted, noted_at};
 ghost use Rattle.es_early.specs.PrivateNames.{IsUndeclaredPrivate, is_private_name};
 ghost use Rattle.es_early.specs.PrivateNames.{parent_of_some};
 
-use crate::ancestors::Ancestors;
-use crate::around::{is_one_of, parent, stands_as, words};
-use crate::field::{KEY, NAME};
-use crate::kinds::MEMBERS;
 use crate::notes::{note, was_noted};
 use es_text::NoMemory;
-use es_tree::Tree;
+use es_tree::field::{KEY, NAME};
 use es_tree::kind::{CLASS_BODY, PRIVATE_IDENTIFIER};
+use es_tree::kinds::MEMBERS;
+use es_tree::{Ancestors, Tree, is_one_of, parent, stands_as, words};
 use std::alloc::Global;
 use std::collections::HashMap;
 

@@ -2,12 +2,10 @@
 ghost use Rattle.std.specs.Prelude.{◌≡◌};
 ghost use Rattle.es_early.specs.Returns.{function_around, is_stray_return, lets_return};
 
-use crate::ancestors::Ancestors;
-use crate::around::is_one_of;
-use crate::kinds::{FUNCTIONS, FUNCTIONS_AND_STATIC_BLOCKS};
 use es_text::SourceType;
-use es_tree::Tree;
 use es_tree::kind::RETURN_STATEMENT;
+use es_tree::kinds::{FUNCTIONS, FUNCTIONS_AND_STATIC_BLOCKS};
+use es_tree::{Ancestors, Tree, is_one_of};
 
 /// The innermost function or static block around the node.
 fn function_around(tree: &Tree, node: u32) -> Option<u32>

@@ -4,16 +4,14 @@ ghost use Rattle.es_early.specs.Declarations.{counts_in, declared_in, is_body, i
 ghost use Rattle.es_early.specs.Declarations.{is_var_scope, listed, scope_around};
 ghost use Rattle.es_early.specs.Declarations.{scope_around_some, scopes_in_function};
 
-use crate::ancestors::Ancestors;
-use crate::around::{is_one_of, parent, stands_in};
 use crate::binding::{Binding, binding_of};
 use es_text::NoMemory;
-use es_tree::Tree;
 use es_tree::kind::{
     ARROW_FUNCTION_EXPRESSION, BLOCK_STATEMENT, CATCH_CLAUSE, FOR_IN_STATEMENT, FOR_OF_STATEMENT,
     FOR_STATEMENT, FUNCTION_DECLARATION, FUNCTION_EXPRESSION, PROGRAM, STATIC_BLOCK,
     SWITCH_STATEMENT,
 };
+use es_tree::{Ancestors, Tree, is_one_of, parent, stands_in};
 use std::alloc::Global;
 
 /// The kinds whose nodes are always scopes.

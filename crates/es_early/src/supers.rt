@@ -1,20 +1,18 @@
 //! `super` where nothing gives it a meaning.
 ghost use Rattle.std.specs.Prelude.{◌≡◌};
-ghost use Rattle.es_early.specs.Around.{parent};
+ghost use Rattle.es_tree.specs.Around.{parent};
 ghost use Rattle.es_early.specs.Supers.{binds_super, has_heritage, if_some, is_derived_constructor};
 ghost use Rattle.es_early.specs.Supers.{is_method, is_method_property, is_stray_super};
 ghost use Rattle.es_early.specs.Supers.{lets_super, lets_super_call, lets_super_property};
 ghost use Rattle.es_early.specs.Supers.{super_around};
 
-use crate::ancestors::Ancestors;
-use crate::around::{child, has_words, is_one_of, is_set, parent, stands_as};
-use crate::field::{CALLEE, MEMBER_KIND, METHOD, SUPER_CLASS, VALUE};
-use crate::kinds::PLAIN_FUNCTIONS;
-use es_tree::Tree;
+use es_tree::field::{CALLEE, MEMBER_KIND, METHOD, SUPER_CLASS, VALUE};
 use es_tree::kind::{
     CALL_EXPRESSION, FUNCTION_DECLARATION, FUNCTION_EXPRESSION, METHOD_DEFINITION, PROPERTY,
     PROPERTY_DEFINITION, STATIC_BLOCK, SUPER,
 };
+use es_tree::kinds::PLAIN_FUNCTIONS;
+use es_tree::{Ancestors, Tree, child, has_words, is_one_of, is_set, parent, stands_as};
 
 /// Whether the node gives `super` inside of it a meaning, or takes it away.
 fn binds_super(tree: &Tree, node: u32) -> bool

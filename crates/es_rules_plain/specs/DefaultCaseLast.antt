@@ -3,7 +3,7 @@ use Rattle.std.specs.Prelude.{ℕ, ◌-◌, ◌&&◌, Bool, true, not, is_none, 
 use Rattle.std.specs.Option.{option_eq, option_map_or}
 use Rattle.es_tree.specs.declared.kind.TheConstants.{SWITCH_CASE}
 use Rattle.es_tree.specs.Rows.{Row, field_child_of, length_of}
-use Rattle.es_early.specs.Around.{child, joined, parent}
+use Rattle.es_tree.specs.Around.{child, joined, parent}
 use Rattle.es_host.specs.Files.{rows_in}
 use Rattle.es_host.specs.Nodes.{NodeMeaning, found, of_kind, span_at, takes_none}
 use Rattle.es_rules_plain.specs.declared.default_case_last.TheConstants.{CASES, TEST}

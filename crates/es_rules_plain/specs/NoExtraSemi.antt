@@ -3,7 +3,7 @@ use Rattle.std.specs.Prelude.{ℕ, List, [], ◌∷◌, Some, codes, if◌then�
 use Rattle.es_text.specs.declared.finding.Fix.{Fix}
 use Rattle.es_text.specs.declared.span.Span.{Span}
 use Rattle.es_tree.specs.declared.kind.TheConstants.{DO_WHILE_STATEMENT, EMPTY_STATEMENT, FOR_IN_STATEMENT, FOR_OF_STATEMENT, FOR_STATEMENT, IF_STATEMENT, LABELED_STATEMENT, WHILE_STATEMENT, WITH_STATEMENT}
-use Rattle.es_early.specs.Around.{is_among}
+use Rattle.es_tree.specs.Around.{is_among}
 use Rattle.es_host.specs.Files.{rows_in}
 use Rattle.es_host.specs.Nodes.{NodeMeaning, found, of_kind, parent_kind, span_at, takes_none}
 

@@ -1,5 +1,5 @@
 ghost use Rattle.std.specs.Prelude.{◌≡◌, ◌<◌, is_none, length, IfOk};
-ghost use Rattle.es_early.specs.Around.{child};
+ghost use Rattle.es_tree.specs.Around.{child};
 ghost use Rattle.es_rules_plain.specs.DefaultCaseLast.{clauses, is_last, should_be_last};
 
 use es_config::Verdict;

@@ -1,5 +1,5 @@
 ghost use Rattle.std.specs.Prelude.{◌≡◌, IfOk};
-ghost use Rattle.es_early.specs.Around.{is_among};
+ghost use Rattle.es_tree.specs.Around.{is_among};
 ghost use Rattle.es_rules_plain.specs.NoExtraSemi.{unnecessary, with_body};
 
 use es_config::Verdict;

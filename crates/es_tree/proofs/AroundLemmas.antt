@@ -1,7 +1,7 @@
 -- The nodes around a node, step by step.
 use Rattle.std.proofs.Common.{◌≡◌, ◌∙◌, ℕ, zero, suc, ◌<◌, ◌≤◌, List, [], ◌∷◌, Option, Some, None, refl, ap, sym, subst, arith}
 use Rattle.es_tree.specs.Rows.{Row, parent_of, IsNumbered}
-use Rattle.es_early.specs.Around.{with_around, joined, parent, ancestors_within, ancestors}
+use Rattle.es_tree.specs.Around.{with_around, joined, parent, ancestors_within, ancestors}
 
 some_parent : (up : Option (Option ℕ)) (node : ℕ) → joined up ≡ Some node → up ≡ Some (Some node)
 some_parent None node is = cc

@@ -4,7 +4,6 @@ use Rattle.std.proofs.Math.ListN.{set}
 use Rattle.std.specs.Prelude.{Option}
 use Rattle.std.proofs.lemmas.List.{map-append}
 use Rattle.std.proofs.lemmas.List.Elements.{All-head, All-tail, All-weaker}
-use Rattle.es_text.specs.declared.span.Span.{Span}
 use Rattle.es_tree.specs.declared.part.Part.{Part}
 use Rattle.es_tree.specs.declared.part.TheConstants.{NOTHING}
 use Rattle.es_tree.specs.declared.rows.Entry.{Entry}

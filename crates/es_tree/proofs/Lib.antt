@@ -1,3 +1,4 @@
+pub mod AroundLemmas
 mod AttributesLemmas
 mod EntriesLemmas
 mod NumberingLemmas

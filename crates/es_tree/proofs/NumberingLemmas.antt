@@ -1,5 +1,5 @@
 -- One layer of the numbering, and the row that gets its numbers once its children have rows.
-use Rattle.std.proofs.Common.{◌≡◌, ◌∙◌, ◌+◌, ◌++◌, List, [], ◌∷◌, Option, Some, None, ℕ, length, sym, ap, refl, get_or, length-append, append_assoc, append-nil, add_assoc, add-zero}
+use Rattle.std.proofs.Common.{◌≡◌, ◌∙◌, ◌+◌, ◌++◌, List, [], ◌∷◌, Option, Some, None, ℕ, length, sym, ap, refl, length-append, append_assoc, append-nil, add_assoc, add-zero}
 use Rattle.es_tree.specs.Numbering.{Numbering, rows_in, numbers_in, rows_of_all, numbers_of_all, filled, all_filled, row_of, node_rows, numbered}
 use Rattle.es_tree.specs.Rows.{Row, childless, with_children}
 use Rattle.es_tree.specs.declared.shape.Shape.{Shape, out-Shape}

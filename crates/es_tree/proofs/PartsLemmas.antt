@@ -1,5 +1,5 @@
 -- Parts of an array that grows.
-use Rattle.std.proofs.Common.{◌≡◌, ◌∙◌, ℕ, ◌+◌, ◌-◌, ◌≤◌, List, [], ◌∷◌, ◌++◌, length, map, take, drop, All, arith, refl, ap, sym, length-append, length-drop}
+use Rattle.std.proofs.Common.{◌≡◌, ◌∙◌, ◌-◌, ◌≤◌, List, [], ◌∷◌, ◌++◌, length, take, drop, All, arith, refl, ap, length-append, length-drop}
 use Rattle.std.proofs.Math.Seq.{drop-append_seam, take-length}
 use Rattle.std.proofs.lemmas.List.{drop-append-le, take-append-le, length-take, map-append}
 use Rattle.std.proofs.lemmas.List.Elements.{All-head, All-tail}

@@ -5,8 +5,8 @@ use Rattle.std.specs.Str.{bytes_eq, encode_utf8_all}
 use Rattle.es_tree.specs.declared.shape.AttributeValue.{AttributeValue}
 use Rattle.es_tree.specs.declared.shape.AttributeValue.TheVariants.{Flag, Words}
 use Rattle.es_tree.specs.Rows.{Row, kind_of, parent_of, field_child_of, value_of}
-use Rattle.es_early.specs.declared.ancestors.Ancestors.{Ancestors}
-use Rattle.es_early.specs.declared.field.TheConstants.{NAME}
+use Rattle.es_tree.specs.declared.ancestors.Ancestors.{Ancestors}
+use Rattle.es_tree.specs.declared.field.TheConstants.{NAME}
 
 -- a value that may be missing, at a node that may be missing
 abbrev pub joined : {A : Type 0} → Option (Option A) → Option A

@@ -1,4 +1,4 @@
--- Kinds of nodes that early errors speak of together.
+-- Kinds of nodes that are spoken of together.
 use Rattle.std.specs.Prelude.{ℕ, List, [], ◌∷◌}
 use Rattle.es_tree.specs.declared.kind.TheConstants.{ARROW_FUNCTION_EXPRESSION, CLASS_DECLARATION, CLASS_EXPRESSION, DO_WHILE_STATEMENT, FOR_IN_STATEMENT, FOR_OF_STATEMENT, FOR_STATEMENT, FUNCTION_DECLARATION, FUNCTION_EXPRESSION, METHOD_DEFINITION, PROPERTY_DEFINITION, STATIC_BLOCK, SWITCH_STATEMENT, WHILE_STATEMENT}
 

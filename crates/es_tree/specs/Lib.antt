@@ -1,6 +1,8 @@
+pub mod Around
 pub mod Attributes
 pub mod Entries
 pub mod Heights
+pub mod Kinds
 pub mod Levels
 pub mod Numbering
 pub mod Parts

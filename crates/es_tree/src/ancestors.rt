@@ -1,5 +1,5 @@
 use crate::around::parent;
-use es_tree::Tree;
+use crate::tree::Tree;
 
 /// The nodes around a node, from its parent out to the Program.
 #[derive(Drop)]
@@ -10,8 +10,9 @@ pub struct Ancestors<'a> {
 
 impl<'a> Ancestors<'a> {
     ghost use Rattle.std.specs.Prelude.{◌≡◌, ◌∷◌};
-    ghost use Rattle.es_early.specs.Around.{ancestors, left};
+    ghost use Rattle.es_tree.specs.Around.{ancestors, left};
 
+    /// The nodes around the node. One step takes constant time.
     pub fn of(tree: &'a Tree, node: u32) -> Ancestors<'a>
         ensures { left result ≡ ancestors tree.now node }
     {
@@ -34,7 +35,7 @@ impl<'a> Ancestors<'a> {
 
 impl Iterator for Ancestors<'_> {
     ghost use Rattle.std.specs.Iterator.{YieldsFirst, item_count};
-    ghost use Rattle.es_early.specs.Around.{left};
+    ghost use Rattle.es_tree.specs.Around.{left};
 
     type Item = u32;
 

@@ -1,12 +1,13 @@
 //! What stands around a node, and what a node is.
 ghost use Rattle.std.specs.Prelude.{◌≡◌, option_map};
 ghost use Rattle.es_tree.specs.Rows.{IsNumbered};
-ghost use Rattle.es_early.specs.Around.{child, is_one_of, is_set, is_some, is_some_of, is_text};
-ghost use Rattle.es_early.specs.Around.{parent};
-ghost use Rattle.es_early.specs.Around.{same_name, stands_as, stands_in, words_of};
+ghost use Rattle.es_tree.specs.Around.{child, is_one_of, is_set, is_some, is_some_of, is_text};
+ghost use Rattle.es_tree.specs.Around.{parent};
+ghost use Rattle.es_tree.specs.Around.{same_name, stands_as, stands_in, words_of};
 
+use crate::attribute::Attribute;
 use crate::field::NAME;
-use es_tree::{Attribute, Tree};
+use crate::tree::Tree;
 
 /// The node's parent, or `None` for the root and for what is no node's number.
 pub fn parent(tree: &Tree, node: u32) -> Option<u32>

@@ -3,6 +3,7 @@ ghost use Rattle.std.specs.Prelude.{◌≡◌, ◌<◌, ◌++◌, [], ◌∷◌,
 ghost use Rattle.std.specs.Prelude.{slice_get, IfOk, OnOk, OnErr};
 
 use crate::part::{Part, append, copy_of, index, items_in};
+use crate::sizes::Sizes;
 use es_text::{Items, NoMemory};
 use std::alloc::Global;
 use std::marker::Model;
@@ -26,13 +27,14 @@ impl Model for ChildLists {
 }
 
 impl ChildLists {
-    pub fn new(alloc: Global) -> ChildLists
-        ensures { result ≡ [] }
+    /// No lists yet, with memory for arrays of these sizes.
+    pub fn with_room(alloc: Global, sizes: Sizes) -> Result<ChildLists, NoMemory>
+        ensures { IfOk result (λ all. all ≡ []) }
     {
-        ChildLists {
-            places: Vec::new(alloc),
-            lists: Vec::new(alloc),
-        }
+        Ok(ChildLists {
+            places: Vec::with_capacity(alloc, sizes.places)?,
+            lists: Vec::with_capacity(alloc, sizes.fields)?,
+        })
     }
 
     pub fn len(&self) -> usize

@@ -1,5 +1,4 @@
-//! The fields that early errors depend on, each by its index, from 0, among the fields of its
-//! kinds, child fields first.
+//! Fields by their index, from 0, among the fields of their kinds, child fields first.
 
 /// The callee of a call.
 pub const CALLEE: u16 = 0;

@@ -1,5 +1,5 @@
-//! Kinds of nodes that early errors speak of together.
-use es_tree::kind::{
+//! Kinds of nodes that are spoken of together.
+use crate::kind::{
     ARROW_FUNCTION_EXPRESSION, DO_WHILE_STATEMENT, FOR_IN_STATEMENT, FOR_OF_STATEMENT,
     FOR_STATEMENT, FUNCTION_DECLARATION, FUNCTION_EXPRESSION, METHOD_DEFINITION,
     PROPERTY_DEFINITION, STATIC_BLOCK, SWITCH_STATEMENT, WHILE_STATEMENT,

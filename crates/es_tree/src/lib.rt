@@ -2,9 +2,13 @@
 //! numbers.
 #![tactic(auto)]
 
+mod ancestors;
+mod around;
 mod attribute;
 mod child_lists;
+pub mod field;
 pub mod kind;
+pub mod kinds;
 mod law;
 mod node;
 mod number;
@@ -12,10 +16,15 @@ mod parsed;
 mod part;
 mod rows;
 mod shape;
+mod sizes;
 #[cfg(test)]
 mod tests;
 mod tree;
 
+pub use ancestors::Ancestors;
+pub use around::{
+    child, has_words, is_one_of, is_set, parent, same_name, stands_as, stands_in, words,
+};
 pub use attribute::Attribute;
 pub use law::{heights, parts_pass};
 pub use node::Node;

@@ -6,6 +6,7 @@ ghost use Rattle.es_tree.specs.Rows.{attributes_of, childless, with_children};
 use crate::child_lists::ChildLists;
 use crate::part::{NOTHING, Part, append, copy_of, items_in};
 use crate::shape::{SetAttribute, copy_attributes};
+use crate::sizes::Sizes;
 use es_text::{Items, NoMemory, Span};
 use std::alloc::Global;
 use std::marker::Model;
@@ -47,15 +48,16 @@ impl Model for Rows {
 }
 
 impl Rows {
-    pub fn new(alloc: Global) -> Rows
-        ensures { result ≡ [] }
+    /// No rows yet, with memory for arrays of these sizes.
+    pub fn with_room(alloc: Global, sizes: Sizes) -> Result<Rows, NoMemory>
+        ensures { IfOk result (λ rows. rows ≡ []) }
     {
-        Rows {
-            entries: Vec::new(alloc),
-            fields: ChildLists::new(alloc),
-            children: Vec::new(alloc),
-            attributes: Vec::new(alloc),
-        }
+        Ok(Rows {
+            entries: Vec::with_capacity(alloc, sizes.nodes)?,
+            fields: ChildLists::with_room(alloc, sizes)?,
+            children: Vec::with_capacity(alloc, sizes.nodes)?,
+            attributes: Vec::with_capacity(alloc, sizes.attributes)?,
+        })
     }
 
     pub fn len(&self) -> usize

@@ -17,6 +17,7 @@ use crate::number::number;
 use crate::part::index;
 use crate::rows::Rows;
 use crate::shape::SetAttribute;
+use crate::sizes::Sizes;
 use es_tables::{Holds, child_field};
 use es_text::{NoMemory, Span};
 use std::alloc::Global;
@@ -53,8 +54,9 @@ impl Tree {
         ensures spans { (test : Span → Bool) → spans_pass test root ≡ true
             → IfOk result (λ tree. list_all (λ row. test row.span) tree ≡ true) }
     {
-        let mut rows = Rows::new(alloc);
-        number(alloc, root.into_shape(), None, &mut rows)?;
+        let root = root.into_shape();
+        let mut rows = Rows::with_room(alloc, Sizes::of(&root))?;
+        number(alloc, root, None, &mut rows)?;
         let nodes = index(rows.len())?;
         Ok(Tree { rows, nodes })
     }

@@ -1,6 +1,6 @@
 use Rattle.std.proofs.Common.{◌≡◌}
 use Rattle.std.specs.Prelude.{find, not}
-use Rattle.es_early.specs.Around.{left}
+use Rattle.es_tree.specs.Around.{left}
 use Rattle.es_early.specs.Declarations.{is_pattern_part, pattern_around}
 use Rattle.es_early.proofs.binding.pattern_around.Given as goal
 

@@ -1,8 +1,8 @@
 use Rattle.std.proofs.Common.{◌≡◌}
 use Rattle.std.specs.List.{list_any}
-use Rattle.es_early.specs.Around.{before, is_one_of, left}
+use Rattle.es_tree.specs.Around.{before, is_one_of, left}
 use Rattle.es_early.specs.Jumps.{ends_break}
-use Rattle.es_early.specs.Kinds.{functions_and_static_blocks}
+use Rattle.es_tree.specs.Kinds.{functions_and_static_blocks}
 use Rattle.es_early.specs.Labels.{around_in_function}
 use Rattle.es_early.proofs.jumps.has_break_target.Given as goal
 

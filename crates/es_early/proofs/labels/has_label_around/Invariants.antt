@@ -1,7 +1,7 @@
 use Rattle.std.proofs.Common.{◌≡◌}
 use Rattle.std.specs.List.{list_any}
-use Rattle.es_early.specs.Around.{before, is_one_of, left}
-use Rattle.es_early.specs.Kinds.{functions_and_static_blocks}
+use Rattle.es_tree.specs.Around.{before, is_one_of, left}
+use Rattle.es_tree.specs.Kinds.{functions_and_static_blocks}
 use Rattle.es_early.specs.Labels.{around_in_function, is_labelled}
 use Rattle.es_early.proofs.labels.has_label_around.Given as goal
 

@@ -2,7 +2,7 @@ use Rattle.std.proofs.Common.{◌≡◌}
 use Rattle.std.specs.Prelude.{[], ◌∷◌, not}
 use Rattle.std.specs.List.{list_any}
 use Rattle.es_tree.specs.declared.kind.TheConstants.{LABELED_STATEMENT}
-use Rattle.es_early.specs.Around.{before, is_one_of, left}
+use Rattle.es_tree.specs.Around.{before, is_one_of, left}
 use Rattle.es_early.specs.Labels.{is_labelled, label_set}
 use Rattle.es_early.proofs.labels.is_in_label_set.Given as goal
 

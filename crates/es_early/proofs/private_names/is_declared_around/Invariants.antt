@@ -3,7 +3,7 @@ use Rattle.std.specs.Prelude.{[], ◌∷◌, ◌&&◌}
 use Rattle.std.specs.List.{list_any}
 use Rattle.std.specs.Option.{is_some}
 use Rattle.es_tree.specs.declared.kind.TheConstants.{CLASS_BODY}
-use Rattle.es_early.specs.Around.{ancestors, is_one_of, left}
+use Rattle.es_tree.specs.Around.{ancestors, is_one_of, left}
 use Rattle.es_early.specs.Notes.{noted_at}
 use Rattle.es_early.proofs.private_names.is_declared_around.Given as goal
 

@@ -1,9 +1,9 @@
 use Rattle.std.proofs.Common.{◌≡◌, ◌∙◌, ap, sym, true, Some, rules}
-use Rattle.es_early.specs.Around.{name_of, parent, stands_as}
-use Rattle.es_early.specs.Kinds.{members}
+use Rattle.es_tree.specs.Around.{name_of, parent, stands_as}
+use Rattle.es_tree.specs.Kinds.{members}
 use Rattle.es_early.specs.Notes.{noted, noted_at}
 use Rattle.es_early.specs.PrivateNames.{is_private_name, parent_of_some}
-use Rattle.es_early.specs.declared.field.TheConstants.{KEY}
+use Rattle.es_tree.specs.declared.field.TheConstants.{KEY}
 use Rattle.es_early.proofs.PrivateNamesLemmas.{key-passes}
 use Rattle.es_early.proofs.private_names.note_private.Goals as goal
 

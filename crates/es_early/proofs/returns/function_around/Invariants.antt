@@ -1,7 +1,7 @@
 use Rattle.std.proofs.Common.{◌≡◌}
 use Rattle.std.specs.Prelude.{find}
-use Rattle.es_early.specs.Around.{ancestors, is_one_of, left}
-use Rattle.es_early.specs.Kinds.{functions_and_static_blocks}
+use Rattle.es_tree.specs.Around.{ancestors, is_one_of, left}
+use Rattle.es_tree.specs.Kinds.{functions_and_static_blocks}
 use Rattle.es_early.proofs.returns.function_around.Given as goal
 
 abbrev pub invariant-loop-around : goal.invariant-loop-around

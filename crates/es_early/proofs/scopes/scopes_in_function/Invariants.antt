@@ -1,6 +1,6 @@
 use Rattle.std.proofs.Common.{◌≡◌, ◌++◌}
 use Rattle.std.specs.Prelude.{filter}
-use Rattle.es_early.specs.Around.{left}
+use Rattle.es_tree.specs.Around.{left}
 use Rattle.es_early.specs.Declarations.{is_scope, out_to_function, scopes_in_function}
 use Rattle.es_early.proofs.scopes.scopes_in_function.Given as goal
 

@@ -1,6 +1,6 @@
 use Rattle.std.proofs.Common.{◌≡◌}
 use Rattle.std.specs.Prelude.{find}
-use Rattle.es_early.specs.Around.{left}
+use Rattle.es_tree.specs.Around.{left}
 use Rattle.es_early.specs.Supers.{binds_super, super_around}
 use Rattle.es_early.proofs.supers.super_around.Given as goal
 

@@ -1,8 +1,8 @@
 use Rattle.std.proofs.Common.{◌∙◌, sym, ap, rules, List, ℕ, Some}
 use Rattle.std.specs.Str.{IsUtf8}
 use Rattle.std.proofs.lemmas.Str.{encodes-chars}
-use Rattle.es_early.specs.Around.{joined, utf8_in}
-use Rattle.es_early.proofs.around.words.Goals as goal
+use Rattle.es_tree.specs.Around.{joined, utf8_in}
+use Rattle.es_tree.proofs.around.words.Goals as goal
 
 pub returns-in-Words : goal.returns-in-Words
 returns-in-Words c =

@@ -1,5 +1,4 @@
 use Rattle.std.proofs.Common.{arith}
-use Rattle.es_tree.specs.Shapes.{height_of}
 use Rattle.es_tree.proofs.ShapesLemmas.{as_high, height-bare, height-with_child, never_lower, stays_within, with_child_beyond}
 use Rattle.es_tree.proofs.law.heights.Goals as goal
 

@@ -1,7 +1,7 @@
 use Rattle.std.proofs.Common.{◌∙◌, ap, sym}
-use Rattle.es_early.specs.Around.{ancestors, with_around}
-use Rattle.es_early.proofs.AroundLemmas.{ancestors-step}
-use Rattle.es_early.proofs.ancestors.Ancestors.of.Goals as goal
+use Rattle.es_tree.specs.Around.{ancestors, with_around}
+use Rattle.es_tree.proofs.AroundLemmas.{ancestors-step}
+use Rattle.es_tree.proofs.ancestors.Ancestors.of.Goals as goal
 
 pub returns : goal.returns
 returns c =

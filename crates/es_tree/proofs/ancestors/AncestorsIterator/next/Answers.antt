@@ -1,7 +1,7 @@
 use Rattle.std.proofs.Common.{◌∙◌, ◌∷◌, ap, sym, length, rules}
-use Rattle.es_early.specs.Around.{ancestors, with_around}
-use Rattle.es_early.proofs.AroundLemmas.{ancestors-step}
-use Rattle.es_early.proofs.ancestors.AncestorsIterator.next.Goals as goal
+use Rattle.es_tree.specs.Around.{ancestors, with_around}
+use Rattle.es_tree.proofs.AroundLemmas.{ancestors-step}
+use Rattle.es_tree.proofs.ancestors.AncestorsIterator.next.Goals as goal
 
 pub returns-clause-steps : goal.returns-clause-steps
 returns-clause-steps c =

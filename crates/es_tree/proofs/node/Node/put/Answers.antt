@@ -1,7 +1,6 @@
-use Rattle.std.proofs.Common.{◌≡◌, ◌∙◌, ◌+◌, ◌<◌, ◌≤◌, ℕ, List, length, max, ap, sym, subst, arith}
+use Rattle.std.proofs.Common.{◌≡◌, ◌∙◌, ◌+◌, ◌<◌, ◌≤◌, ℕ, length, max, ap, sym, subst, arith}
 use Rattle.std.specs.Prelude.{◌&&◌, Option}
 use Rattle.es_text.specs.Lists.{pushed_at}
-use Rattle.es_text.specs.declared.span.Span.{Span}
 use Rattle.es_tables.specs.Nodes.{HasField, child_fields}
 use Rattle.es_tree.specs.declared.shape.Shape.{Shape, out-Shape, roll-Shape}
 use Rattle.es_tree.specs.Shapes.{height, height_of, with_child}

@@ -1,4 +1,4 @@
-use Rattle.std.proofs.Common.{◌≡◌, ◌∙◌, ◌++◌, [], length, ap, sym, refl, append-nil}
+use Rattle.std.proofs.Common.{◌≡◌, ◌++◌, [], sym, refl, append-nil}
 use Rattle.es_tree.specs.Entries.{Arrays, arrays_of}
 use Rattle.es_tree.specs.declared.part.TheConstants.{NOTHING}
 use Rattle.es_tree.specs.declared.rows.Entry.{Entry}

@@ -1,4 +1,4 @@
-use Rattle.std.proofs.Common.{◌≡◌, ◌∙◌, ◌++◌, ◌<◌, length, arith, ap, sym, refl}
+use Rattle.std.proofs.Common.{◌≡◌, ◌++◌, ◌<◌, length, arith, ap, refl}
 use Rattle.std.proofs.lemmas.List.{length-map}
 use Rattle.es_tree.specs.Entries.{Arrays, arrays_of, row_in}
 use Rattle.es_tree.proofs.EntriesLemmas.{rows-children}
