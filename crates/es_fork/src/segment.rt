@@ -25,7 +25,7 @@ impl Model for SegmentId {
 }
 
 /// What happens on the way, each with the number of a node of the tree.
-#[derive(Clone, Copy)]
+#[derive(Clone, Copy, PartialEq, Eq)]
 pub enum Label {
     /// The node begins.
     Enter(u32),
