@@ -1,16 +1,39 @@
 -- The words of selectors: each takes as much of the text as it can from the front, and says what follows.
 use Rattle.std.specs.Prelude.{ℕ, ◌+◌, ◌-◌, ◌*◌, ◌==◌, Bool, true, false, not, ◌&&◌, ◌||◌, nat_le, min, List, [], ◌∷◌, length, Option, Some, None, codes, fold, if◌then◌else◌, option_and_then, option_map, take}
 use Rattle.std.specs.List.{list_all, list_any}
-use Rattle.es_text.specs.Characters.{apostrophe, backslash, is_decimal, is_white_space, quotation_mark, slash}
+use Rattle.es_text.specs.Characters.{apostrophe, backslash, dollar_sign, exclamation_mark, is_decimal, is_white_space, low_line, quotation_mark, right_bracket, slash, zero_digit}
 use Rattle.es_text.specs.Rest.{begins, drop_while}
 
 -- what was read, and what follows it
 abbrev pub Read : Type 0 → Type 0
 Read A = Option (A × List ℕ)
 
+-- `:`, `=`, `<`, `>` and `~`
+abbrev pub colon : ℕ
+colon = 58
+
+abbrev pub equals_sign : ℕ
+equals_sign = 61
+
+abbrev pub less_than : ℕ
+less_than = 60
+
+abbrev pub greater_than : ℕ
+greater_than = 62
+
+abbrev pub tilde : ℕ
+tilde = 126
+
+-- the letters of ASCII
+abbrev pub is_capital : ℕ → Bool
+is_capital c = nat_le 65 c && nat_le c 90
+
+abbrev pub is_small : ℕ → Bool
+is_small c = nat_le 97 c && nat_le c 122
+
 -- ASCII letters, digits, `_` and `$`
 abbrev pub is_name_part : ℕ → Bool
-is_name_part c = is_decimal c || (nat_le 65 c && nat_le c 90) || (nat_le 97 c && nat_le c 122) || c == 95 || c == 36
+is_name_part c = is_decimal c || is_capital c || is_small c || c == low_line || c == dollar_sign
 
 -- what stands in front of what follows
 abbrev pub in_front : List ℕ → List ℕ → List ℕ
@@ -54,7 +77,7 @@ abbrev pub greatest_number : ℕ
 greatest_number = 0xFFFF_FFFF
 
 abbrev pub with_digit : ℕ → ℕ → ℕ
-with_digit number digit = min greatest_number (10 * number + (digit - 48))
+with_digit number digit = min greatest_number (10 * number + (digit - zero_digit))
 
 -- the number that the digits spell in decimal, or the greatest one
 abbrev pub number_of : List ℕ → ℕ
@@ -91,7 +114,9 @@ is_quote c = c == quotation_mark || c == apostrophe
 
 -- a character of a bare value
 abbrev pub is_bare : ℕ → Bool
-is_bare c = not (is_white_space c || is_quote c || c == 93 || c == 61 || c == 33 || c == 60 || c == 62)
+is_bare c =
+    not (is_white_space c || is_quote c
+    || c == right_bracket || c == equals_sign || c == exclamation_mark || c == less_than || c == greater_than)
 
 -- a regular expression, which isn't read as a value, nor is `type(..)`
 abbrev pub is_slashed : List ℕ → Bool

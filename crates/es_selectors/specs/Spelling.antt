@@ -1,7 +1,7 @@
 -- How selectors are spelled. A production takes a text of its own from the front of the characters, and says
 -- what it stands for and what follows it.
 use Rattle.std.specs.Prelude.{ℕ, ◌≡◌, ◌==◌, Bool, true, false, not, ◌&&◌, ◌||◌, List, [], ◌∷◌, Some, None, codes, if◌then◌else◌, option_and_then, option_map, unwrap_or}
-use Rattle.es_text.specs.Characters.{is_white_space}
+use Rattle.es_text.specs.Characters.{asterisk, full_stop, is_white_space, left_bracket, plus_sign}
 use Rattle.es_text.specs.Rest.{begins}
 use Rattle.es_selectors.specs.declared.selector.Atom.{Atom, roll-Atom}
 use Rattle.es_selectors.specs.declared.selector.Atom.TheOpen.{Atom-F}
@@ -20,7 +20,7 @@ use Rattle.es_selectors.specs.declared.word.Nest.TheVariants as nest
 use Rattle.es_selectors.specs.declared.word.Word.{Word}
 use Rattle.es_selectors.specs.declared.word.Word.TheVariants as word
 use Rattle.es_selectors.specs.KindAtoms.{kind_named}
-use Rattle.es_selectors.specs.Lexical.{Read, after, first_of, go_on, is_name_part, is_some, just, just_before, name, number, number_in_parentheses, past_blanks, value}
+use Rattle.es_selectors.specs.Lexical.{Read, after, colon, first_of, go_on, greater_than, is_name_part, is_some, just, just_before, name, number, number_in_parentheses, past_blanks, tilde, value}
 
 -- `.f.g` where it stands there, else `.f`, behind the first dot
 abbrev pub field_of : List ℕ → List ℕ × List ℕ → Atom × List ℕ
@@ -133,15 +133,15 @@ kind_atom read = (roll-Atom (Atom-F.Kind (kind_named read.0)), read.1)
 unfoldable pub plain_atom : List ℕ → Read Atom
 plain_atom [] = None
 plain_atom (c ∷ cs) =
-    if c == 42 then Some (roll-Atom Atom-F.Any, cs)
-    else if c == 46 then field cs
-    else if c == 58 then option_and_then plain_word (word_at cs)
+    if c == asterisk then Some (roll-Atom Atom-F.Any, cs)
+    else if c == full_stop then field cs
+    else if c == colon then option_and_then plain_word (word_at cs)
     else option_map kind_atom (name (c ∷ cs))
 
 -- a word that takes a selector, with its colon
 unfoldable pub nest_at : List ℕ → Read Nest
 nest_at [] = None
-nest_at (c ∷ cs) = if c == 58 then option_and_then nest_word (word_at cs) else None
+nest_at (c ∷ cs) = if c == colon then option_and_then nest_word (word_at cs) else None
 
 abbrev pub nested : Nest → List (Chain Atom) → Atom
 nested nest.Not chains = roll-Atom (Atom-F.Not chains)
@@ -156,7 +156,7 @@ exit_word = codes ":exit"
 
 -- An atom begins with `*`, a name, `.`, `[` or `:`; `:exit` is none
 abbrev pub is_atom_start : ℕ → Bool
-is_atom_start c = is_name_part c || c == 42 || c == 46 || c == 91 || c == 58
+is_atom_start c = is_name_part c || c == asterisk || c == full_stop || c == left_bracket || c == colon
 
 unfoldable pub begins_atom : List ℕ → Bool
 begins_atom cs = begins is_atom_start cs && not (is_some (after exit_word cs))
@@ -168,9 +168,9 @@ descendant cs = if begins is_white_space cs && begins_atom (past_blanks cs) then
 abbrev pub combinator_or : Read Combinator → List ℕ → Read Combinator
 combinator_or other [] = other
 combinator_or other (c ∷ cs) =
-    if c == 62 then Some (Child, past_blanks cs)
-    else if c == 43 then Some (Next, past_blanks cs)
-    else if c == 126 then Some (Later, past_blanks cs)
+    if c == greater_than then Some (Child, past_blanks cs)
+    else if c == plus_sign then Some (Next, past_blanks cs)
+    else if c == tilde then Some (Later, past_blanks cs)
     else other
 
 unfoldable pub combinator : List ℕ → Read Combinator
