@@ -1,7 +1,9 @@
 -- What is set for a file, with options as the JSON values that they hold.
 use Rattle.std.specs.Prelude.{ℕ, Bool, List, Option, map}
+use Rattle.std.specs.List.{list_any}
 use Rattle.serde_json.specs.Data.{Data}
 use Rattle.serde_json.specs.View.{view}
+use Rattle.serde_json.specs.Written.{has_float}
 use Rattle.serde_json.specs.declared.value.Value.{Value}
 use Rattle.es_text.specs.declared.finding.Severity.{Severity}
 use Rattle.es_text.specs.declared.token.SourceType.{SourceType}
@@ -15,6 +17,10 @@ Options = List Data
 
 abbrev pub options_of : List Value → Options
 options_of values = map view values
+
+-- a floating-point number stands in one of them
+abbrev pub have_float : Options → Bool
+have_float options = list_any has_float options
 
 -- what is set for a rule, which is off without a severity
 pub record Setting : Type 0 where

@@ -1,8 +1,9 @@
-ghost use Rattle.std.specs.Prelude.{◌≡◌, ◌<◌, ℕ, List, length, IfOk, MatchOption};
+ghost use Rattle.std.specs.Prelude.{◌≡◌, ◌<◌, ℕ, false, List, length, IfOk, MatchOption};
 ghost use Rattle.std.specs.Str.{chars};
 ghost use Rattle.es_config.specs.declared.verdict.Verdict.{Verdict};
+ghost use Rattle.es_config.specs.declared.verdict.Verdict.TheVariants.{Fine};
 ghost use Rattle.es_config.specs.Rules.{IsFirstAt, StandsNowhere};
-ghost use Rattle.es_config.specs.Settings.{Options, options_of};
+ghost use Rattle.es_config.specs.Settings.{Options, have_float, options_of};
 
 use crate::verdict::Verdict;
 use es_text::NoMemory;
@@ -26,8 +27,9 @@ pub trait Known {
         ensures { MatchOption result (StandsNowhere (ids self.now) (chars id.now))
             (IsFirstAt (ids self.now) (chars id.now)) };
 
-    /// What the rule at this place has to say of the options.
+    /// What the rule at this place has to say of the options. No rule takes a floating-point number.
     fn verdict(&self, alloc: Global, place: u32, options: &[Value]) -> Result<Verdict, NoMemory>
         requires { place < length (ids self.now) }
-        ensures { IfOk result (λ given. given ≡ verdict self.now place (options_of options.now)) };
+        ensures verdict { IfOk result (λ given. given ≡ verdict self.now place (options_of options.now)) }
+        ensures floats { IfOk result (λ given. given ≡ Fine → have_float (options_of options.now) ≡ false) };
 }

@@ -4,6 +4,8 @@
 mod file_config;
 mod global_use;
 mod known;
+#[cfg(test)]
+mod tests;
 mod verdict;
 
 pub use file_config::{FileConfig, RuleSetting};

@@ -11,7 +11,7 @@ use Rattle.es_host.proofs.ListenersLemmas.{other-tells, own-tells, take-more}
 use Rattle.es_host.proofs.MeaningsLemmas.{meaning-here}
 use Rattle.es_host.specs.Files.{File, rows_in}
 use Rattle.es_host.specs.Hearing.{EachHeard, HasHeard, events_of}
-use Rattle.es_host.specs.Lawful.{told_at, told_of}
+use Rattle.es_host.specs.Lawful.{told_of}
 use Rattle.es_host.specs.Listeners.{ServeAll, told_by, told_by_one}
 use Rattle.es_host.specs.Meanings.{Event, Meaning, interest_at, is_on, meaning_at, options_at, setting_at}
 use Rattle.es_host.specs.Walk.{Moment}

@@ -1,10 +1,13 @@
+pub mod CommentsLemmas
 pub mod ListsLemmas
 pub mod HearingLemmas
 pub mod LawfulLemmas
 pub mod ListenersLemmas
 pub mod MeaningsLemmas
 pub mod NodesLemmas
+pub mod ReadTokensLemmas
 pub mod ReportsLemmas
 pub mod SortingLemmas
 pub mod SpansLemmas
+pub mod TokensLemmas
 pub mod WalkLemmas

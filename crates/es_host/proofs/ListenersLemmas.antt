@@ -1,18 +1,14 @@
 -- What listeners tell a rule.
-use Rattle.std.proofs.Common.{◌≡◌, ◌≢◌, ◌∙◌, ℕ, zero, suc, ◌+◌, ◌<◌, Bool, true, false, List, [], ◌∷◌, ◌++◌, length, slice_index_or, take, ap, sym, subst, refl, append-nil, nat_eq, arith}
+use Rattle.std.proofs.Common.{◌≡◌, ◌≢◌, ◌∙◌, ℕ, suc, ◌+◌, ◌<◌, Bool, true, false, List, [], ◌∷◌, ◌++◌, length, slice_index_or, take, ap, sym, refl, append-nil, arith}
 use Rattle.std.specs.Prelude.{◌==◌, if◌then◌else◌}
-use Rattle.std.specs.List.{flat_map}
 use Rattle.std.proofs.Math.Seq.{take-suc}
 use Rattle.std.proofs.lemmas.Bool.{eqb-true, eq-eqb}
 use Rattle.std.proofs.lemmas.Grind.{flat_map-append}
-use Rattle.std.specs.Prelude.{IsTrue, slice_get, Option, Some, None, eqb}
-use Rattle.std.specs.Option.{option_map_or}
 use Rattle.es_tree.specs.Rows.{Row}
 use Rattle.es_selectors.specs.declared.selector.Spelling.{Spelling}
 use Rattle.es_host.specs.declared.listeners.Listener.{Listener}
 use Rattle.es_host.specs.Lawful.{told_of}
 use Rattle.es_host.specs.Listeners.{told_by, told_by_one}
-use Rattle.es_host.specs.Meanings.{Event}
 use Rattle.es_host.specs.Walk.{Moment}
 
 -- one more listener

@@ -1,12 +1,12 @@
 -- The walk through a node, by the walks through its children.
-use Rattle.std.proofs.Common.{◌≡◌, ◌∙◌, ℕ, zero, suc, ◌+◌, ◌<◌, ◌≤◌, Bool, true, false, List, [], ◌∷◌, ◌++◌, slice_index_or, take, length, append_assoc, append-nil, ap, sym, refl, arith, Option, Some, None}
+use Rattle.std.proofs.Common.{◌≡◌, ◌∙◌, ℕ, zero, suc, ◌+◌, ◌<◌, ◌≤◌, true, false, List, [], ◌∷◌, ◌++◌, slice_index_or, take, length, append_assoc, append-nil, ap, sym, refl, arith, Option, Some, None}
 use Rattle.std.specs.Prelude.{option_map, slice_get, unwrap_or}
 use Rattle.std.specs.List.{flat_map}
 use Rattle.std.proofs.lemmas.Option.{slice_get-get_or}
 use Rattle.std.proofs.Math.Seq.{take-suc}
 use Rattle.std.proofs.lemmas.Grind.{flat_map-append}
 use Rattle.std.proofs.lemmas.List.{take_all}
-use Rattle.es_tree.specs.Rows.{IsNumbered, Row, child_of, children_of, kind_of}
+use Rattle.es_tree.specs.Rows.{IsNumbered, Row, child_of, kind_of}
 use Rattle.es_host.proofs.ListsLemmas.{flat_map-alike}
 use Rattle.es_host.specs.Walk.{Moment, children, moment, walk_from, walk_within}
 

@@ -1,5 +1,5 @@
 -- What a rule may look at.
-use Rattle.std.specs.Prelude.{ℕ, List, IsTrue}
+use Rattle.std.specs.Prelude.{List, IsTrue}
 use Rattle.es_text.specs.Texts.{Text, text_bytes}
 use Rattle.es_tree.specs.Rows.{Row}
 use Rattle.es_tree.specs.declared.parsed.Parsed.{Parsed}

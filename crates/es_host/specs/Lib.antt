@@ -8,4 +8,5 @@ pub mod Nodes
 pub mod Reports
 pub mod Sorting
 pub mod Spans
+pub mod TokensAround
 pub mod Walk

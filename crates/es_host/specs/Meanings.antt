@@ -1,5 +1,5 @@
 -- What a rule means.
-use Rattle.std.specs.Prelude.{◌≡◌, ℕ, ◌<◌, Bool, true, false, List, [], length, map, Option, Some, None, slice_get, unwrap_or}
+use Rattle.std.specs.Prelude.{◌≡◌, ℕ, ◌<◌, Bool, true, false, List, [], length, Option, Some, None, slice_get, unwrap_or}
 use Rattle.es_text.specs.declared.finding.Finding.{Finding}
 use Rattle.es_selectors.specs.declared.selector.Spelling.{Spelling}
 use Rattle.es_config.specs.declared.verdict.Verdict.{Verdict}

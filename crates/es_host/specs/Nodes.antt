@@ -1,10 +1,11 @@
 -- What rules of nodes and rules of files say.
-use Rattle.std.specs.Prelude.{ℕ, Bool, true, false, nat_lt, List, [], ◌∷◌, Option, None, Some, map, unwrap_or}
+use Rattle.std.specs.Prelude.{ℕ, Bool, false, nat_lt, List, [], ◌∷◌, Option, None, Some, map, unwrap_or}
 use Rattle.std.specs.List.{flat_map, list_all}
 use Rattle.es_text.specs.declared.finding.Finding.{Finding}
 use Rattle.es_text.specs.declared.finding.Fix.{Fix}
 use Rattle.es_text.specs.declared.span.Span.{Span}
-use Rattle.es_tree.specs.Rows.{Row, kind_of, parent_of, span_of}
+use Rattle.es_tree.specs.Rows.{Row, kind_of, length_of, parent_of, span_of}
+use Rattle.es_tree.specs.Around.{joined}
 use Rattle.es_selectors.specs.declared.selector.Atom.{roll-Atom}
 use Rattle.es_selectors.specs.declared.selector.Atom.TheOpen.{Atom-F}
 use Rattle.es_selectors.specs.declared.selector.Spelling.{Spelling}
@@ -31,6 +32,19 @@ pub record FileMeaning : Type 0 where
   pub id : List ℕ
   pub verdict : Options → Verdict
   pub finds : File → Options → List Finding
+
+-- what a rule means that takes no options and looks at one node at a time
+pub record SimpleNodeMeaning : Type 0 where
+  pub id : List ℕ
+  -- the kinds of the nodes that it asks for
+  pub kinds : List ℕ
+  -- what it finds at a node of one of them
+  pub finds : File → (node : ℕ) → List Finding
+
+-- what a rule means that takes no options and looks at a file as a whole
+pub record SimpleFileMeaning : Type 0 where
+  pub id : List ℕ
+  pub finds : File → List Finding
 
 -- a node that was told, with the index of the selector
 abbrev pub asked_of : Event → Asked
@@ -61,7 +75,7 @@ of_files meaning = record {
   says = λ file options. ordered (meaning.finds file options);
 }
 
--- ---- words for rules
+-- ---- rules without options
 
 -- no options at all are taken
 abbrev pub takes_none : Options → Verdict
@@ -72,6 +86,19 @@ takes_none (option ∷ options) = BadOption
 abbrev pub of_kind : ℕ → Spelling
 of_kind kind = record { chains = record { first = roll-Atom (Atom-F.Kind (Some kind)) ∷ []; links = [] } ∷ []; exit = false }
 
+abbrev pub simple_nodes : SimpleNodeMeaning → NodeMeaning
+simple_nodes meaning = record {
+  id = meaning.id;
+  verdict = takes_none;
+  interest = λ options. map of_kind meaning.kinds;
+  finds = λ file options node which. meaning.finds file node;
+}
+
+abbrev pub simple_file : SimpleFileMeaning → FileMeaning
+simple_file meaning = record { id = meaning.id; verdict = takes_none; finds = λ file options. meaning.finds file }
+
+-- ---- words for rules
+
 -- the bytes are ASCII, so that they are the characters, too
 abbrev pub is_plain : List ℕ → Bool
 is_plain bytes = list_all (λ byte. nat_lt byte 128) bytes
@@ -79,6 +106,10 @@ is_plain bytes = list_all (λ byte. nat_lt byte 128) bytes
 -- the span of a node
 abbrev pub span_at : List Row → ℕ → Span
 span_at rows node = unwrap_or (span_of rows node) (record { start = 0; end = 0 })
+
+-- how many children and holes stand in the list field of a node
+abbrev pub count_places : List Row → ℕ → ℕ → ℕ
+count_places rows node field = unwrap_or (joined (length_of rows node field)) 0
 
 -- the kind of a node's parent; the Program has none
 abbrev pub kind_above : List Row → Option (Option ℕ) → Option ℕ

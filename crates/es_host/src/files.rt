@@ -1,8 +1,8 @@
 //! Rules that look at a file as a whole, and what makes rules of them.
-ghost use Rattle.std.specs.Prelude.{ℕ, ◌≡◌, List, [], IfOk, OnOk, IsTrue};
+ghost use Rattle.std.specs.Prelude.{◌≡◌, false, List, [], IfOk, OnOk, IsTrue};
 ghost use Rattle.es_text.specs.Texts.{text_bytes};
 ghost use Rattle.es_config.specs.declared.verdict.Verdict.TheVariants.{Fine};
-ghost use Rattle.es_config.specs.Settings.{Options, options_of};
+ghost use Rattle.es_config.specs.Settings.{Options, have_float, options_of};
 ghost use Rattle.es_host.specs.Files.{IsWhole, file_in};
 ghost use Rattle.es_host.specs.Nodes.{FileMeaning, is_plain};
 ghost use Rattle.es_host.specs.Spans.{findings_fit};
@@ -18,7 +18,8 @@ use std::alloc::Global;
 
 /// A rule that looks at a file as a whole: `EachFile` makes a `Rule` of it.
 ///
-/// It keeps its options and nothing else. What it means is said of its type.
+/// It keeps its options and nothing else. What it means is said of its type. One that takes no options is a
+/// `SimpleFileRule`.
 pub trait FileRule: Drop {
     /// Its id, its verdict on options, and what it finds in a file under options.
     ghost meaning: { FileMeaning };
@@ -31,9 +32,10 @@ pub trait FileRule: Drop {
         ensures id { result.now ≡ meaning.id }
         ensures plain { IsTrue (is_plain result.now) };
 
-    /// Whether it takes the options.
+    /// Whether it takes the options. No rule takes a floating-point number.
     fn verdict(&self, alloc: Global, options: &[Value]) -> Result<Verdict, NoMemory>
-        ensures { IfOk result (λ verdict. verdict ≡ meaning.verdict (options_of options.now)) };
+        ensures verdict { IfOk result (λ verdict. verdict ≡ meaning.verdict (options_of options.now)) }
+        ensures floats { IfOk result (λ verdict. verdict ≡ Fine → have_float (options_of options.now) ≡ false) };
 
     /// Keeps these options, and no earlier ones.
     fn set(&mut self, alloc: Global, options: &[Value]) -> Result<(), NoMemory>

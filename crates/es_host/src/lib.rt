@@ -10,6 +10,8 @@ mod nodes;
 mod order;
 mod report;
 mod rule;
+mod simple;
+mod tokens;
 mod walk;
 mod words;
 
@@ -18,4 +20,5 @@ pub use files::{EachFile, FileRule};
 pub use kit::{Kit, listen};
 pub use nodes::{EachNode, NodeRule};
 pub use rule::Rule;
-pub use words::{no_options, of_kind, of_kinds, plain};
+pub use simple::{SimpleFileRule, SimpleNodeRule};
+pub use words::{count_places, no_options, of_kind, of_kinds, plain};

@@ -1,9 +1,9 @@
 //! Rules that look at one node at a time, and what makes rules of them.
-ghost use Rattle.std.specs.Prelude.{ℕ, ◌≡◌, ◌<◌, List, [], ◌++◌, All, length, IfOk, OnOk, IsTrue};
+ghost use Rattle.std.specs.Prelude.{ℕ, ◌≡◌, ◌<◌, false, List, [], ◌++◌, All, length, IfOk, OnOk, IsTrue};
 ghost use Rattle.std.specs.List.{flat_map};
 ghost use Rattle.es_text.specs.Texts.{text_bytes};
 ghost use Rattle.es_config.specs.declared.verdict.Verdict.TheVariants.{Fine};
-ghost use Rattle.es_config.specs.Settings.{Options, options_of};
+ghost use Rattle.es_config.specs.Settings.{Options, have_float, options_of};
 ghost use Rattle.es_host.specs.Files.{File, IsWhole, file_of, rows_in};
 ghost use Rattle.es_host.specs.Lawful.{is_asked};
 ghost use Rattle.es_host.specs.Nodes.{NodeMeaning, finds_at, is_plain};
@@ -21,7 +21,8 @@ use std::alloc::Global;
 
 /// A rule that looks at one node at a time: `EachNode` makes a `Rule` of it.
 ///
-/// It keeps its options and nothing else. What it means is said of its type.
+/// It keeps its options and nothing else. What it means is said of its type. One that takes no options is a
+/// `SimpleNodeRule`.
 pub trait NodeRule: Drop {
     /// Its id, its verdict on options, and under options the selectors that it asks for and what it finds
     /// at a node that one of them matches.
@@ -35,9 +36,10 @@ pub trait NodeRule: Drop {
         ensures id { result.now ≡ meaning.id }
         ensures plain { IsTrue (is_plain result.now) };
 
-    /// Whether it takes the options.
+    /// Whether it takes the options. No rule takes a floating-point number.
     fn verdict(&self, alloc: Global, options: &[Value]) -> Result<Verdict, NoMemory>
-        ensures { IfOk result (λ verdict. verdict ≡ meaning.verdict (options_of options.now)) };
+        ensures verdict { IfOk result (λ verdict. verdict ≡ meaning.verdict (options_of options.now)) }
+        ensures floats { IfOk result (λ verdict. verdict ≡ Fine → have_float (options_of options.now) ≡ false) };
 
     /// Keeps these options, and no earlier ones.
     fn set(&mut self, alloc: Global, options: &[Value]) -> Result<(), NoMemory>

@@ -1,8 +1,8 @@
-ghost use Rattle.std.specs.Prelude.{ℕ, ◌≡◌, ◌<◌, List, [], ◌∷◌, ◌++◌, All, length, IfOk, OnOk, IsTrue};
+ghost use Rattle.std.specs.Prelude.{ℕ, ◌≡◌, ◌<◌, false, List, [], ◌∷◌, ◌++◌, All, length, IfOk, OnOk, IsTrue};
 ghost use Rattle.std.specs.Str.{chars};
 ghost use Rattle.es_text.specs.Texts.{text_bytes};
 ghost use Rattle.es_config.specs.declared.verdict.Verdict.TheVariants.{Fine};
-ghost use Rattle.es_config.specs.Settings.{Options, options_of};
+ghost use Rattle.es_config.specs.Settings.{Options, have_float, options_of};
 ghost use Rattle.es_host.specs.Files.{File, IsWhole, file_of, rows_in};
 ghost use Rattle.es_host.specs.Lawful.{HeardAll, Lawful, is_asked};
 ghost use Rattle.es_host.specs.Meanings.{Event, Meaning};
@@ -30,9 +30,10 @@ pub trait Rule: Drop {
     fn id(&self) -> &str
         ensures { chars result.now ≡ (meaning self.now).id };
 
-    /// Whether it takes the options.
+    /// Whether it takes the options. No rule takes a floating-point number.
     fn verdict(&self, alloc: Global, options: &[Value]) -> Result<Verdict, NoMemory>
-        ensures { IfOk result (λ verdict. verdict ≡ (meaning self.now).verdict (options_of options.now)) };
+        ensures verdict { IfOk result (λ verdict. verdict ≡ (meaning self.now).verdict (options_of options.now)) }
+        ensures floats { IfOk result (λ verdict. verdict ≡ Fine → have_float (options_of options.now) ≡ false) };
 
     /// Forgets what was heard, and takes these options.
     fn begin(&mut self, alloc: Global, options: &[Value]) -> Result<(), NoMemory>

@@ -1,22 +1,25 @@
 //! What rules are written with.
-ghost use Rattle.std.specs.Prelude.{◌≡◌, ◌<◌, ◌∷◌, ◌++◌, [], None, length, map, IfOk, IsTrue, OnOk};
+ghost use Rattle.std.specs.Prelude.{◌≡◌, ◌<◌, false, ◌∷◌, ◌++◌, [], None, length, map, IfOk, IsTrue, OnOk};
 ghost use Rattle.es_text.specs.Spans.{is_part};
 ghost use Rattle.es_text.specs.Texts.{text_bytes};
-ghost use Rattle.es_config.specs.Settings.{options_of};
+ghost use Rattle.es_config.specs.Settings.{have_float, options_of};
+ghost use Rattle.es_config.specs.declared.verdict.Verdict.TheVariants.{Fine};
 ghost use Rattle.es_host.specs.Files.{IsWhole, file_of, rows_in};
-ghost use Rattle.es_host.specs.Nodes.{found, is_plain, of_kind, parent_kind, span_at, takes_none};
+ghost use Rattle.es_host.specs.Nodes.{count_places, found, is_plain, of_kind, parent_kind, span_at, takes_none};
 ghost use Rattle.es_host.specs.Spans.{findings_fit, fix_fits};
 
 use crate::file::Ctx;
 use es_config::Verdict;
 use es_selectors::{Atom, Chain, Selector, Spelling};
 use es_text::{Finding, Fix, Items, NoMemory, Span, Txt};
+use es_tree::{Attribute, Tree};
 use serde_json::Value;
 use std::alloc::Global;
 
 /// The verdict of a rule that takes no options.
 pub fn no_options(options: &[Value]) -> Verdict
-    ensures { result ≡ takes_none (options_of options.now) }
+    ensures verdict { result ≡ takes_none (options_of options.now) }
+    ensures floats { result ≡ Fine → have_float (options_of options.now) ≡ false }
 {
     if options.is_empty() {
         Verdict::Fine
@@ -51,6 +54,17 @@ pub fn of_kinds(alloc: Global, kinds: &[u16]) -> Result<Vec<Selector>, NoMemory>
         selectors.push(of_kind(alloc, *kind)?)?;
     }
     Ok(selectors)
+}
+
+/// How many children and holes stand in the list field of the node; none where it is no list of its kind.
+pub fn count_places(tree: &Tree, node: u32, field: u16) -> u32
+    requires { node < length tree.now }
+    ensures { result ≡ count_places tree.now node field }
+{
+    match tree.attribute(node, field) {
+        Attribute::Length(count) => count,
+        Attribute::Absent | Attribute::Flag(_) | Attribute::Words(_) => 0,
+    }
 }
 
 /// A copy of a text of ASCII, whose bytes are its characters.

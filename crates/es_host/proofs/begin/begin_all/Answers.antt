@@ -1,4 +1,4 @@
-use Rattle.std.proofs.Common.{rules, arith, ◌∙◌, ℕ, List, [], ◌<◌, length}
+use Rattle.std.proofs.Common.{rules, ◌∙◌, ℕ, [], ◌<◌, length}
 use Rattle.std.specs.Prelude.{IsTrue}
 use Rattle.std.proofs.Math.Seq.{map-set_same}
 use Rattle.es_host.specs.declared.file.FileView.{FileView}

@@ -1,4 +1,4 @@
-use Rattle.std.proofs.Common.{rules, arith, ◌≡◌, ℕ, ◌∙◌, ◌<◌, ◌++◌, Some, ap, sym, refl, append_assoc, length}
+use Rattle.std.proofs.Common.{rules, ◌≡◌, ℕ, ◌∙◌, ◌++◌, Some, ap, sym, refl, append_assoc}
 use Rattle.std.specs.List.{flat_map, range_with_len}
 use Rattle.std.specs.Prelude.{slice_get}
 use Rattle.std.proofs.lemmas.Option.{slice_get-get_or}

@@ -1,4 +1,4 @@
-use Rattle.std.proofs.Common.{rules, arith, ◌≡◌, ℕ, ◌∙◌, ◌<◌, ◌≤◌, ◌+◌, ◌++◌, ◌∷◌, [], All, ap, sym, subst, length, length-append, slice_index_or, map, List}
+use Rattle.std.proofs.Common.{arith, ◌≡◌, ℕ, ◌∙◌, ◌<◌, ◌+◌, ◌∷◌, [], All, ap, sym, subst, length, length-append, slice_index_or, map, List}
 use Rattle.std.proofs.lemmas.List.{length-map}
 use Rattle.es_host.specs.declared.listeners.Listener.{Listener}
 use Rattle.es_host.specs.Files.{file_in}

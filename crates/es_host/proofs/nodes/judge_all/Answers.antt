@@ -1,9 +1,8 @@
-use Rattle.std.proofs.Common.{◌≡◌, ◌∙◌, List, take, ap, sym, arith}
+use Rattle.std.proofs.Common.{◌≡◌, ◌∙◌, take, ap, arith}
 use Rattle.std.specs.List.{flat_map}
-use Rattle.std.specs.Prelude.{IfOk, IsTrue}
+use Rattle.std.specs.Prelude.{IsTrue}
 use Rattle.std.proofs.lemmas.List.{take_all}
 use Rattle.std.proofs.lemmas.Result.{IfOk-weaker}
-use Rattle.es_text.specs.declared.finding.Finding.{Finding}
 use Rattle.es_text.specs.Texts.{text_bytes}
 use Rattle.es_host.proofs.SpansLemmas.{ordered-fit}
 use Rattle.es_host.specs.Files.{file_of}

@@ -1,5 +1,4 @@
-use Rattle.std.proofs.Common.{rules, arith, ◌≡◌, ◌∙◌, ℕ, ◌<◌, ◌++◌, List, length, map, ap, sym}
-use Rattle.std.specs.List.{flat_map, range_with_len}
+use Rattle.std.proofs.Common.{rules, ◌≡◌, ◌∙◌, ℕ, ◌<◌, ◌++◌, List, length, map, ap, sym}
 use Rattle.std.proofs.Math.Seq.{map-set_same}
 use Rattle.es_config.specs.Settings.{options_of}
 use Rattle.es_host.specs.declared.file.FileView.{FileView}

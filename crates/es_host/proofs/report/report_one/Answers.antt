@@ -1,4 +1,4 @@
-use Rattle.std.proofs.Common.{◌≡◌, ◌∙◌, ◌++◌, map, ap}
+use Rattle.std.proofs.Common.{◌∙◌, ap}
 use Rattle.es_text.specs.Texts.{text_bytes}
 use Rattle.es_host.specs.Spans.{fixes_fit, reports_fit}
 use Rattle.es_host.proofs.SpansLemmas.{fixes-fit-more, reports-fit-more}

@@ -1,4 +1,4 @@
-use Rattle.std.proofs.Common.{rules, arith, ◌≡◌, ℕ, ◌∙◌, ◌<◌, ◌+◌, ◌++◌, ◌∷◌, [], true, false, ap, sym, subst, append_assoc, map, take, List, Some, None}
+use Rattle.std.proofs.Common.{rules, arith, ◌≡◌, ℕ, ◌∙◌, ◌++◌, ◌∷◌, [], true, false, ap, sym, subst, append_assoc, map, take, List, Some, None}
 use Rattle.std.specs.List.{flat_map}
 use Rattle.std.proofs.lemmas.Grind.{common_steps}
 use Rattle.es_tree.specs.Rows.{Row, child_of}

@@ -1,4 +1,4 @@
-use Rattle.std.proofs.Common.{ℕ, ◌≡◌, ◌≤◌, ◌+◌, ◌-◌, ◌*◌, List, ◌++◌, length, map, take}
+use Rattle.std.proofs.Common.{◌≡◌, ◌+◌, ◌-◌, ◌*◌, List, ◌++◌, length, map, take}
 use Rattle.std.specs.List.{flat_map}
 use Rattle.es_host.specs.Files.{file_in, rows_in}
 use Rattle.es_host.specs.Hearing.{EachHeard, events_of}

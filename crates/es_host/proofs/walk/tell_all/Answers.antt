@@ -5,7 +5,7 @@ use Rattle.es_host.specs.declared.listeners.Listener.{Listener}
 use Rattle.es_host.proofs.HearingLemmas.{all-told, one-told}
 use Rattle.es_host.proofs.WalkLemmas.{kind-there}
 use Rattle.es_host.specs.Files.{File, file_of, rows_in}
-use Rattle.es_host.specs.Walk.{Moment, moment}
+use Rattle.es_host.specs.Walk.{moment}
 use Rattle.es_host.proofs.walk.tell_all.Goals as goal
 
 pub returns-in_err-tell-clause-same : goal.returns-in_err-tell-clause-same

@@ -1,9 +1,8 @@
-use Rattle.std.proofs.Common.{rules, arith, ◌≡◌, ◌≢◌, ◌∙◌, ℕ, ◌<◌, true, false, Some, ap, sym, length, map}
+use Rattle.std.proofs.Common.{rules, ◌≡◌, ◌≢◌, ◌∙◌, ℕ, ◌<◌, true, false, Some, ap, sym, length}
 use Rattle.std.specs.Prelude.{slice_get}
 use Rattle.std.specs.Str.{bytes_eq, chars, encode_utf8_all}
 use Rattle.std.proofs.lemmas.Slice.Eq.{bytes_eq-Decides}
 use Rattle.std.proofs.lemmas.Str.{encodes-chars}
-use Rattle.es_host.specs.Kits.{meanings_of}
 use Rattle.es_host.proofs.ListsLemmas.{below-more}
 use Rattle.es_host.proofs.MeaningsLemmas.{id-here, id-within, ids}
 use Rattle.es_host.proofs.kit.KitKnown.place.Goals as goal

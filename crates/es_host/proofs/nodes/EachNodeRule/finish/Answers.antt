@@ -1,5 +1,5 @@
 use Rattle.std.proofs.Common.{◌≡◌, ◌∙◌, List, map, slice_index_or, ap, sym, subst}
-use Rattle.std.specs.List.{All, flat_map}
+use Rattle.std.specs.List.{flat_map}
 use Rattle.std.specs.Prelude.{IfOk, IsTrue}
 use Rattle.es_tree.specs.Rows.{Row}
 use Rattle.es_host.specs.Files.{file_of, rows_in}
