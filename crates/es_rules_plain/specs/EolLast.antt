@@ -6,7 +6,7 @@ use Rattle.es_text.specs.Characters.{line_feed}
 use Rattle.es_text.specs.declared.finding.Fix.{Fix}
 use Rattle.es_text.specs.declared.span.Span.{Span}
 use Rattle.es_text.specs.Texts.{text_bytes}
-use Rattle.es_host.specs.Nodes.{FileMeaning, found, takes_none}
+use Rattle.es_host.specs.Nodes.{SimpleFileMeaning, found}
 
 unfoldable pub required : List ℕ
 required = codes "Newline required at end of file but not found."
@@ -22,11 +22,10 @@ end_of bytes = record { start = length bytes; end = length bytes }
 abbrev pub newline_at : Span → Fix
 newline_at span = record { span = span; text = line_feed ∷ [] }
 
-abbrev pub eol_last : FileMeaning
+abbrev pub eol_last : SimpleFileMeaning
 eol_last = record {
   id = codes "eol-last";
-  verdict = takes_none;
-  finds = λ file options.
+  finds = λ file.
       if lacks_newline (text_bytes file.text)
       then found (end_of (text_bytes file.text)) required (Some (newline_at (end_of (text_bytes file.text)))) ∷ []
       else [];

@@ -2,12 +2,11 @@
 use Rattle.std.specs.Prelude.{[], ◌∷◌, None, codes}
 use Rattle.es_tree.specs.declared.kind.TheConstants.{DEBUGGER_STATEMENT}
 use Rattle.es_host.specs.Files.{rows_in}
-use Rattle.es_host.specs.Nodes.{NodeMeaning, found, of_kind, span_at, takes_none}
+use Rattle.es_host.specs.Nodes.{SimpleNodeMeaning, found, span_at}
 
-abbrev pub no_debugger : NodeMeaning
+abbrev pub no_debugger : SimpleNodeMeaning
 no_debugger = record {
   id = codes "no-debugger";
-  verdict = takes_none;
-  interest = λ options. of_kind DEBUGGER_STATEMENT ∷ [];
-  finds = λ file options node which. found (span_at (rows_in file) node) (codes "Unexpected 'debugger' statement.") None ∷ [];
+  kinds = DEBUGGER_STATEMENT ∷ [];
+  finds = λ file node. found (span_at (rows_in file) node) (codes "Unexpected 'debugger' statement.") None ∷ [];
 }

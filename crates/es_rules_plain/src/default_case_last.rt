@@ -1,13 +1,10 @@
 ghost use Rattle.std.specs.Prelude.{◌≡◌, ◌<◌, is_none, length, IfOk};
 ghost use Rattle.es_tree.specs.Around.{child};
-ghost use Rattle.es_rules_plain.specs.DefaultCaseLast.{clauses, is_last, should_be_last};
+ghost use Rattle.es_rules_plain.specs.DefaultCaseLast.{is_last, should_be_last};
 
-use es_config::Verdict;
-use es_host::{Ctx, NodeRule, no_options, of_kinds, plain};
-use es_selectors::Selector;
+use es_host::{Ctx, SimpleNodeRule, count_places, plain};
 use es_text::{Finding, NoMemory, Txt};
-use es_tree::{Attribute, Tree, kind};
-use serde_json::Value;
+use es_tree::{Tree, kind};
 use std::alloc::Global;
 
 /// The field of a switch that has its clauses.
@@ -20,27 +17,17 @@ const TEST: u16 = 0;
 #[derive(Drop)]
 pub struct DefaultCaseLast;
 
-impl NodeRule for DefaultCaseLast {
+impl SimpleNodeRule for DefaultCaseLast {
     ghost use Rattle.es_rules_plain.specs.DefaultCaseLast.{default_case_last};
 
     ghost meaning = { default_case_last };
-
-    ghost keeps = { λ _ _. Unit {0} };
 
     fn id(&self) -> &str {
         "default-case-last"
     }
 
-    fn verdict(&self, _alloc: Global, options: &[Value]) -> Result<Verdict, NoMemory> {
-        Ok(no_options(options))
-    }
-
-    fn set(&mut self, _alloc: Global, _options: &[Value]) -> Result<(), NoMemory> {
-        Ok(())
-    }
-
-    fn interest(&self, alloc: Global) -> Result<Vec<Selector>, NoMemory> {
-        of_kinds(alloc, &[kind::SWITCH_CASE])
+    fn kinds(&self) -> &[u16] {
+        &[kind::SWITCH_CASE]
     }
 
     fn judge(
@@ -48,7 +35,6 @@ impl NodeRule for DefaultCaseLast {
         alloc: Global,
         ctx: &Ctx,
         node: u32,
-        _which: u32,
         findings: &mut Vec<Finding>,
     ) -> Result<(), NoMemory> {
         let tree = &ctx.file.parsed.tree;
@@ -67,17 +53,6 @@ fn is_default(tree: &Tree, node: u32) -> bool
     tree.field(node, TEST, 0).is_none()
 }
 
-/// How many clauses the switch has.
-fn clauses(tree: &Tree, switch: u32) -> u32
-    requires { switch < length tree.now }
-    ensures { result ≡ clauses tree.now switch }
-{
-    match tree.attribute(switch, CASES) {
-        Attribute::Length(count) => count,
-        Attribute::Absent | Attribute::Flag(_) | Attribute::Words(_) => 0,
-    }
-}
-
 /// Whether the clause is the last of its switch.
 fn is_last(tree: &Tree, node: u32) -> bool
     requires { node < length tree.now }
@@ -86,7 +61,7 @@ fn is_last(tree: &Tree, node: u32) -> bool
     match tree.parent(node) {
         None => true,
         Some(switch) => {
-            let last = clauses(tree, switch).saturating_sub(1);
+            let last = count_places(tree, switch, CASES).saturating_sub(1);
             tree.field(switch, CASES, last) == Some(node)
         }
     }

@@ -3,33 +3,21 @@ ghost use Rattle.es_text.specs.Spans.{is_part};
 ghost use Rattle.es_text.specs.Texts.{text_bytes};
 ghost use Rattle.es_rules_plain.specs.EolLast.{end_of, lacks_newline, required};
 
-use es_config::Verdict;
-use es_host::{FileRule, FileView, no_options, plain};
+use es_host::{FileView, SimpleFileRule, plain};
 use es_text::{Finding, Fix, NoMemory, Source, Span, Txt};
-use serde_json::Value;
 use std::alloc::Global;
 
 /// Finds that a text doesn't end in an LF, and mends it by putting one there.
 #[derive(Drop)]
 pub struct EolLast;
 
-impl FileRule for EolLast {
+impl SimpleFileRule for EolLast {
     ghost use Rattle.es_rules_plain.specs.EolLast.{eol_last};
 
     ghost meaning = { eol_last };
 
-    ghost keeps = { λ _ _. Unit {0} };
-
     fn id(&self) -> &str {
         "eol-last"
-    }
-
-    fn verdict(&self, _alloc: Global, options: &[Value]) -> Result<Verdict, NoMemory> {
-        Ok(no_options(options))
-    }
-
-    fn set(&mut self, _alloc: Global, _options: &[Value]) -> Result<(), NoMemory> {
-        Ok(())
     }
 
     fn judge(&self, alloc: Global, file: &FileView) -> Result<Vec<Finding>, NoMemory> {
