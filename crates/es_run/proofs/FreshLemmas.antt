@@ -1,6 +1,6 @@
 -- What each stage's answer is to a fresh run, and that a fresh run gives nothing else.
-use Rattle.std.proofs.Common.{◌≡◌, ℕ, ◌<◌, ◌≤◌, List, [], ◌∷◌, length, refl, sym, ap, subst, arith, ◌∙◌, inl, inr}
-use Rattle.std.specs.Prelude.{Option, Some, None, Err, string_bytes}
+use Rattle.std.proofs.Common.{◌≡◌, ℕ, ◌<◌, ◌≤◌, List, [], ◌∷◌, length, refl, sym, ap, subst, arith, ◌∙◌}
+use Rattle.std.specs.Prelude.{Option, Some, None, Err}
 use Rattle.std.specs.Str.{chars}
 use Rattle.std.specs.FinMap as finite
 use Rattle.es_text.specs.declared.finding.Report.{Report}

@@ -7,7 +7,7 @@ use Rattle.std.proofs.lemmas.Str.{IsAscii-append, chars-IsAscii}
 use Rattle.std.proofs.lemmas.Str.Ascii.{IsAscii-cons, IsAscii-nil}
 use Rattle.std.specs.Fmt.{decimal}
 use Rattle.std.specs.List.{list_all}
-use Rattle.std.specs.Prelude.{Option, Some, None, Result, Ok, Err, IfOk, map, codes, nat_lt}
+use Rattle.std.specs.Prelude.{Some, None, Result, Ok, Err, IfOk, map, codes, nat_lt}
 use Rattle.std.specs.Str.{IsAscii, IsCharBoundary, chars}
 use Rattle.es_text.specs.declared.finding.Report.{Report}
 use Rattle.es_text.specs.declared.token.SourceType.{SourceType}

@@ -10,7 +10,7 @@ use Rattle.std.specs.Str.{IsUtf8, IsAscii, chars}
 use Rattle.std.specs.Fmt.{decimal}
 use lib.Utf8.{encode}
 use Rattle.es_text.specs.declared.span.Place.{Place}
-use Rattle.es_run.specs.Stylish.{Problem, line_end, message, place_text, widest, padded, problem_line, ending_of, counted, summary}
+use Rattle.es_run.specs.Stylish.{Problem, line_end, message, place_text, widest, padded, problem_line, ending_of, counted, fixable_end, fixable_text, summary}
 
 -- an ASCII character is one byte
 pub encodes-cons : (c : ℕ) (cs : List ℕ) → c < 128 → encode_utf8_all (c ∷ cs) ≡ c ∷ encode_utf8_all cs
@@ -76,6 +76,16 @@ pub encodes-summary : (number : ℕ) → number < 2 ^ 64 → encode_utf8_all (su
 unfolding encode
 encodes-summary number small =
     simp (encodes-append, append_assoc, encodes-decimal number small, encodes-decimal 0 (lit< tt), encodes-ending number)
+
+encodes-fixable_end : encode_utf8_all fixable_end ≡ fixable_end
+unfolding fixable_end encode
+encodes-fixable_end = refl
+
+-- the bytes of the line of the problems that have a fix
+pub encodes-fixable_text : (number : ℕ) → number < 2 ^ 64 → encode_utf8_all (fixable_text number) ≡ fixable_text number
+unfolding encode
+encodes-fixable_text number small =
+    simp (encodes-append, append_assoc, encodes-decimal number small, encodes-decimal 0 (lit< tt), encodes-ending number, encodes-fixable_end)
 
 -- the widest of one more text
 pub widest-more : {A : Type 0} (f : A → List ℕ) (items : List A) (item : A)

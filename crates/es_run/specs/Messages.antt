@@ -1,5 +1,5 @@
 -- What is printed of a file: what the rules say of it, or the one fatal message where it isn't parsed.
-use Rattle.std.specs.Prelude.{◌≡◌, ℕ, ◌++◌, List, [], ◌∷◌, Option, Some, None, map, codes, nat_eq, if◌then◌else◌}
+use Rattle.std.specs.Prelude.{◌≡◌, ℕ, ◌++◌, List, [], ◌∷◌, Option, Some, None, false, is_some, map, codes, nat_eq, if◌then◌else◌}
 use Rattle.std.specs.Fmt.{decimal}
 use Rattle.std.specs.List.{ends_with}
 use Rattle.es_text.specs.declared.finding.Report.{Report}
@@ -32,12 +32,17 @@ fatal_of (Wrong early) =
 -- what is printed of it, in a text of these characters
 abbrev pub fatal_problem : List ℕ → Fatal → Problem
 fatal_problem characters fatal =
-    record { place = place_at characters fatal.at; text = fatal.text; rule = None }
+    record { place = place_at characters fatal.at; text = fatal.text; rule = None; fixable = false }
 
 -- what is printed of a report
 abbrev pub problem_of : List ℕ → Report → Problem
 problem_of characters report =
-    record { place = place_at characters report.span.start; text = report.text; rule = report.rule }
+    record {
+      place = place_at characters report.span.start;
+      text = report.text;
+      rule = report.rule;
+      fixable = is_some report.fix;
+    }
 
 -- what linting a text gives: what is printed of it, and how often its rules listened
 pub record Linting : Type 0 where

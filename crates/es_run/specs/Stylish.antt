@@ -1,14 +1,15 @@
 -- The stylish report of one file, of which every problem is an error. Its parts are lists of characters.
-use Rattle.std.specs.Prelude.{ℕ, ◌-◌, Option, Some, None, List, [], ◌∷◌, ◌++◌, length, map, max, replicate, codes, encode_utf8_all, ◌==◌, if◌then◌else◌}
+use Rattle.std.specs.Prelude.{ℕ, ◌-◌, Bool, Option, Some, None, List, [], ◌∷◌, ◌++◌, length, map, max, replicate, codes, encode_utf8_all, ◌==◌, if◌then◌else◌}
 use Rattle.std.specs.Fmt.{decimal}
-use Rattle.std.specs.List.{flat_map}
+use Rattle.std.specs.List.{filter, flat_map}
 use Rattle.es_text.specs.declared.span.Place.{Place}
 
--- a problem of the file: its place, its message and the id of its rule, if a rule made it
+-- a problem of the file: its place, its message, the id of its rule, if a rule made it, and whether it has a fix
 pub record Problem : Type 0 where
   pub place : Place
   pub text : List ℕ
   pub rule : Option (List ℕ)
+  pub fixable : Bool
 
 -- LF
 abbrev pub line_end : List ℕ
@@ -72,10 +73,29 @@ summary number =
     ++ (codes " (" ++ (counted number (codes "error")
     ++ (codes ", " ++ (counted 0 (codes "warning") ++ codes ")")))))
 
+-- how many of the problems have a fix
+abbrev pub count_fixable : List Problem → ℕ
+count_fixable problems = length (filter (λ problem. problem.fixable) problems)
+
+-- what follows the numbers of problems that have a fix
+unfoldable pub fixable_end : List ℕ
+fixable_end = codes " potentially fixable with the `--fix` option."
+
+-- `  N errors and 0 warnings`, and that
+abbrev pub fixable_text : ℕ → List ℕ
+fixable_text number =
+    codes "  " ++ (counted number (codes "error")
+    ++ (codes " and " ++ (counted 0 (codes "warning") ++ (fixable_end ++ line_end))))
+
+-- the line of the problems that have a fix, where there are any
+unfoldable pub fixable_line : ℕ → List ℕ
+fixable_line number = if number == 0 then [] else fixable_text number
+
 -- The bytes of the report, from the name's bytes and the problems: nothing without any problem; else LF, the name, LF,
--- the lines, LF, the summary, LF.
+-- the lines, LF, the summary, LF, the line of those that have a fix.
 abbrev pub stylish_of : List ℕ → List Problem → List ℕ
 stylish_of name [] = []
 stylish_of name (problem ∷ problems) =
     line_end ++ (name ++ (line_end ++ (encode_utf8_all (problem_lines (problem ∷ problems))
-    ++ (line_end ++ (encode_utf8_all (summary (length (problem ∷ problems))) ++ line_end)))))
+    ++ (line_end ++ (encode_utf8_all (summary (length (problem ∷ problems)))
+    ++ (line_end ++ encode_utf8_all (fixable_line (count_fixable (problem ∷ problems)))))))))

@@ -43,6 +43,7 @@ pub(crate) fn unparsed(
         place: source.place(fatal.at),
         text: fatal.text,
         rule: None,
+        fixable: false,
     })?;
     Ok(problems)
 }

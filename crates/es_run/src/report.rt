@@ -191,11 +191,13 @@ fn problem_of(source: &Source, report: Report) -> Problem
         rule,
         text,
         span,
+        fix,
         ..
     } = report;
     Problem {
         place: source.place(span.start),
         text,
         rule,
+        fixable: fix.is_some(),
     }
 }

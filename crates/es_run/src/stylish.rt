@@ -2,18 +2,21 @@
 
 ghost use Rattle.std.specs.Prelude.{◌≡◌, IfOk, length, encode_utf8_all, string_bytes};
 ghost use Rattle.std.specs.Str.{chars};
-ghost use Rattle.es_run.specs.Stylish.{message, place_text, padded, problem_line, problem_lines, widest_place, widest_text, counted, ending_of, summary, stylish_of};
+ghost use Rattle.es_run.specs.Stylish.{message, place_text, padded, problem_line, problem_lines, widest_place, widest_text, count_fixable, counted, ending_of};
+ghost use Rattle.es_run.specs.Stylish.{fixable_end, fixable_line, fixable_text, summary, stylish_of};
 
 use es_text::{NoMemory, Place, Txt};
 use std::alloc::Global;
 use std::marker::Model;
 
-/// A problem of the file: its place, its message and the id of its rule, if a rule made it.
+/// A problem of the file: its place, its message, the id of its rule, if a rule made it, and whether it
+/// has a fix.
 #[derive(Drop)]
 pub(crate) struct Problem {
     pub(crate) place: Place,
     pub(crate) text: Txt,
     pub(crate) rule: Option<Txt>,
+    pub(crate) fixable: bool,
 }
 
 impl Model for Problem {
@@ -25,6 +28,7 @@ impl Model for Problem {
       place = problem.place;
       text = problem.text;
       rule = problem.rule;
+      fixable = problem.fixable;
     } };
 }
 
@@ -44,7 +48,8 @@ pub(crate) fn stylish(alloc: Global, name: &str, problems: &[Problem]) -> Result
     }
     let lines = lines_text(alloc, problems)?;
     let summary = summary_text(alloc, problems.len())?;
-    Ok(format!(in alloc; "\n{name}\n{lines}\n{summary}\n")?)
+    let fixable = fixable_line(alloc, count_fixable(problems))?;
+    Ok(format!(in alloc; "\n{name}\n{lines}\n{summary}\n{fixable}")?)
 }
 
 /// One line for each problem.
@@ -147,6 +152,43 @@ fn summary_text(alloc: Global, number: usize) -> Result<String, NoMemory>
     let errors = counted_text(alloc, number, "error")?;
     let warnings = counted_text(alloc, 0, "warning")?;
     Ok(format!(in alloc; "✖ {problems} ({errors}, {warnings})")?)
+}
+
+/// How many of the problems have a fix.
+fn count_fixable(problems: &[Problem]) -> usize
+    ensures { result ≡ count_fixable problems.now }
+{
+    problems.iter().filter(|problem| problem.fixable).count()
+}
+
+/// The line of the problems that have a fix, where there are any.
+#[tactic(auto, unfolding(crate::specs::Stylish::fixable_line))]
+fn fixable_line(alloc: Global, number: usize) -> Result<String, NoMemory>
+    ensures { IfOk result (λ text. string_bytes text ≡ encode_utf8_all (fixable_line number)) }
+{
+    if number == 0 {
+        Ok(String::new(alloc))
+    } else {
+        fixable_text(alloc, number)
+    }
+}
+
+/// How many errors have a fix.
+fn fixable_text(alloc: Global, number: usize) -> Result<String, NoMemory>
+    ensures { IfOk result (λ text. string_bytes text ≡ encode_utf8_all (fixable_text number)) }
+{
+    let errors = counted_text(alloc, number, "error")?;
+    let warnings = counted_text(alloc, 0, "warning")?;
+    let end = fixable_end();
+    Ok(format!(in alloc; "  {errors} and {warnings}{end}\n")?)
+}
+
+/// What follows the numbers of problems that have a fix.
+#[tactic(auto, unfolding(crate::specs::Stylish::fixable_end))]
+fn fixable_end() -> &'static str
+    ensures { result.now ≡ fixable_end }
+{
+    " potentially fixable with the `--fix` option."
 }
 
 /// A number and its noun, which is singular where the number is 1.

@@ -1,4 +1,4 @@
-use Rattle.std.proofs.Common.{rules, arith, ap, subst, sym, ◌≡◌, ◌∙◌}
+use Rattle.std.proofs.Common.{rules, arith, ap, subst, ◌≡◌, ◌∙◌}
 use Rattle.std.specs.Prelude.{IfOk, string_bytes}
 use Rattle.std.specs.Str.{chars}
 use Rattle.es_run.proofs.MessagesLemmas.{early_chars, early_text}

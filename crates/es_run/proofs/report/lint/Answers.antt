@@ -1,5 +1,3 @@
-use Rattle.std.proofs.Common.{subst, sym}
-use Rattle.es_text.specs.Texts.{text_bytes}
 use Rattle.es_run.specs.Kits.{program_says}
 use Rattle.es_run.proofs.MessagesLemmas.{fault_linted, said_linted}
 use Rattle.es_run.proofs.report.lint.Goals as goal
