@@ -1,0 +1,15 @@
+use Rattle.std.proofs.Common.{◌∙◌, ap, length, arith}
+use Rattle.std.proofs.lemmas.List.FromFn.{length-map-range_with_len}
+use Rattle.es_scopes.specs.Places.{stands}
+use Rattle.es_scopes.proofs.ListLemmas.{at_filled}
+use Rattle.es_scopes.proofs.places.stands.Goals as goal
+
+pub index-requires : goal.index-requires
+index-requires c =
+    omega (arith, c.requires.node, ap length c.requires.places.all.stands, length-map-range_with_len (stands c.args.tree.now) 0 (length c.args.tree.now))
+
+pub returns : goal.returns
+returns c =
+    c.index.ensures
+    ∙ at_filled (stands c.args.tree.now) c.args.places.now.stands.items (length c.args.tree.now) c.args.node c.index.result.now
+    c.requires.places.all.stands c.requires.node

@@ -1,0 +1,11 @@
+pub mod Analysis
+pub mod Bindings
+pub mod Chains
+pub mod Declarations
+pub mod Filled
+pub mod Gathering
+pub mod Left
+pub mod Opened
+pub mod Places
+pub mod Uses
+pub mod Variables
