@@ -1,0 +1,9 @@
+pub mod Classes
+pub mod Directives
+pub mod Fixes
+pub mod Joined
+pub mod NumberedFixes
+pub mod Seen
+pub mod Standings
+pub mod Stretches
+pub mod Suppression
