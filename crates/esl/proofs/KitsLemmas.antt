@@ -31,3 +31,22 @@ one_needs {R} meaning rules all kits kit is same =
     one : NeedsNoOptions meaning kit → All (NeedsNoOptions meaning) (kit ∷ [])
     one own zero d h = own
     one own (suc k) d h = absurd (omega (arith, h))
+
+-- it holds of each, item by item
+abbrev pub Each : {R : Type 0} → (R → Type 0) → List R → Type 0
+Each P [] = Unit {0}
+Each P (item ∷ items) = P item × Each P items
+
+each_all : {R : Type 0} (P : R → Type 0) (listed : List R) → Each P listed → All P listed
+each_all P [] each k d h = absurd (omega (arith, h))
+each_all P (item ∷ items) each zero d h = each.0
+each_all P (item ∷ items) each (suc k) d h = each_all P items each.1 k d (omega (arith, h))
+
+-- what holds of each item of a list holds of all of an equal one
+pub all_listed : {R : Type 0} (P : R → Type 0) (items listed : List R) → items ≡ listed → Each P listed → All P items
+all_listed P items listed same each = subst (All P) (sym same) (each_all P listed each)
+
+-- what holds of each value of a vtable holds of each of an equal one
+pub at_vtable : {X : Type 0} {Held : X → Type 0} (P : (v : X) → Held v → Type 0) (v w : X) → v ≡ w → ((x : Held w) → P w x) → (x : Held v) → P v x
+at_vtable {X} {Held} P v w same at x =
+    let Q : X → Type 0 = λ u. (y : Held u) → P u y in subst Q (sym same) at x

@@ -1,1 +1,2 @@
 pub mod KitsLemmas
+pub mod SendLemmas

@@ -2,18 +2,25 @@
 //! ends with the status of the run.
 #![tactic(auto)]
 
-ghost use Rattle.std.specs.Prelude.{◌≡◌, ◌≢◌};
+ghost use Rattle.std.specs.Prelude.{◌≡◌, ◌≢◌, ◌<◌, ◌^◌, All, [], length};
 ghost use Rattle.std.specs.IoError.{error_kind};
+ghost use Rattle.es_config.specs.declared.verdict.Verdict.TheVariants.{Fine};
 
 use es_files::{RealErr, RealFiles, RealOut};
-use es_host::{EachNode, Kit, Rule};
-use es_rules_plain::NoDebugger;
+use es_host::{EachFile, EachNode, Kit, Rule};
+use es_rules_plain::{
+    DefaultCaseLast, EolLast, Eqeqeq, NoCondAssign, NoDebugger, NoDuplicateCase, NoEmpty,
+    NoExtraSemi, NoRestrictedSyntax, NoSparseArrays, NoTrailingSpaces, NoUnsafeFinally,
+    NoUnsafeNegation, Semi, ValidTypeof,
+};
 use es_run::{Status, StopCause};
 use es_text::NoMemory;
 use std::io::ErrorKind;
 use std::process::ExitCode;
 use std::{env, io};
 
+#[cfg(test)]
+mod scope_tests;
 #[cfg(test)]
 mod tests;
 #[cfg(test)]
@@ -30,11 +37,38 @@ fn main(rt: HostRuntime) -> ExitCode {
     ExitCode::from(es_run::status_code(&status))
 }
 
-/// Makes the kit, the files and the streams, and runs.
+/// Boxes the rules, in the order in which reports of one place are told, and runs.
 fn lint(rt: &HostRuntime, arguments: &[String]) -> Result<Status, NoMemory> {
     let alloc = rt.alloc();
     let mut rules: Vec<Box<dyn Rule + Send>> = Vec::new(alloc);
+    rules.push(Box::new(alloc, EachNode::new(alloc, Semi))?)?;
+    rules.push(Box::new(alloc, EachNode::new(alloc, NoExtraSemi))?)?;
+    rules.push(Box::new(alloc, EachFile::new(EolLast))?)?;
+    rules.push(Box::new(alloc, EachFile::new(NoTrailingSpaces))?)?;
     rules.push(Box::new(alloc, EachNode::new(alloc, NoDebugger))?)?;
+    rules.push(Box::new(alloc, EachNode::new(alloc, NoEmpty))?)?;
+    rules.push(Box::new(alloc, EachNode::new(alloc, Eqeqeq::new()))?)?;
+    rules.push(Box::new(alloc, EachNode::new(alloc, NoDuplicateCase))?)?;
+    rules.push(Box::new(alloc, EachNode::new(alloc, NoCondAssign))?)?;
+    rules.push(Box::new(alloc, EachNode::new(alloc, NoUnsafeFinally))?)?;
+    rules.push(Box::new(alloc, EachNode::new(alloc, NoUnsafeNegation))?)?;
+    rules.push(Box::new(alloc, EachNode::new(alloc, ValidTypeof))?)?;
+    rules.push(Box::new(alloc, EachNode::new(alloc, NoSparseArrays))?)?;
+    rules.push(Box::new(alloc, EachNode::new(alloc, DefaultCaseLast))?)?;
+    rules.push(Box::new(alloc, EachNode::new(alloc, NoRestrictedSyntax::new(alloc)))?)?;
+    run_over(rt, arguments, rules)
+}
+
+/// Makes the kit of these rules, the files and the streams, and runs.
+fn run_over<R: Rule>(
+    rt: &HostRuntime,
+    arguments: &[String],
+    rules: Vec<R>,
+) -> Result<Status, NoMemory>
+    requires few { length rules.items < 2 ^ 32 }
+    requires options { All (λ rule. (R.meaning rule).verdict [] ≡ Fine) rules.items }
+{
+    let alloc = rt.alloc();
     let mut kits = Vec::new(alloc);
     kits.push(Kit::new(rules))?;
     let mut files = RealFiles::new(rt);

@@ -213,6 +213,7 @@ a.js
   1:4  error  Newline required at end of file but not found.  eol-last
 
 ✖ 1 problem (1 error, 0 warnings)
+  1 error and 0 warnings potentially fixable with the `--fix` option.
 ";
 
 #[test]

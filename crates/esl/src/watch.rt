@@ -1,6 +1,6 @@
 //! Rules for tests, which say where each node of one kind stands. Their messages are their ids.
 use es_config::Verdict;
-use es_host::{Ctx, NodeRule, no_options, of_kinds};
+use es_host::{Ctx, NodeRule, SimpleNodeRule, no_options, of_kinds};
 use es_selectors::Selector;
 use es_text::{Finding, NoMemory};
 use es_tree::kind;
@@ -11,35 +11,24 @@ use std::alloc::Global;
 #[derive(Drop)]
 pub(crate) struct WatchEmpty;
 
-impl NodeRule for WatchEmpty {
+impl SimpleNodeRule for WatchEmpty {
     ghost use Rattle.std.specs.Prelude.{[], ◌∷◌, None, codes};
     ghost use Rattle.es_tree.specs.declared.kind.TheConstants.{EMPTY_STATEMENT};
     ghost use Rattle.es_host.specs.Files.{rows_in};
-    ghost use Rattle.es_host.specs.Nodes.{found, of_kind, span_at, takes_none};
+    ghost use Rattle.es_host.specs.Nodes.{found, span_at};
 
     ghost meaning = { record {
       id = codes "empty";
-      verdict = takes_none;
-      interest = λ options. of_kind EMPTY_STATEMENT ∷ [];
-      finds = λ file options node which. found (span_at (rows_in file) node) (codes "empty") None ∷ [];
+      kinds = EMPTY_STATEMENT ∷ [];
+      finds = λ file node. found (span_at (rows_in file) node) (codes "empty") None ∷ [];
     } };
-
-    ghost keeps = { λ _ _. Unit {0} };
 
     fn id(&self) -> &str {
         "empty"
     }
 
-    fn verdict(&self, _alloc: Global, options: &[Value]) -> Result<Verdict, NoMemory> {
-        Ok(no_options(options))
-    }
-
-    fn set(&mut self, _alloc: Global, _options: &[Value]) -> Result<(), NoMemory> {
-        Ok(())
-    }
-
-    fn interest(&self, alloc: Global) -> Result<Vec<Selector>, NoMemory> {
-        of_kinds(alloc, &[kind::EMPTY_STATEMENT])
+    fn kinds(&self) -> &[u16] {
+        &[kind::EMPTY_STATEMENT]
     }
 
     fn judge(
@@ -47,7 +36,6 @@ impl NodeRule for WatchEmpty {
         alloc: Global,
         ctx: &Ctx,
         node: u32,
-        _which: u32,
         findings: &mut Vec<Finding>,
     ) -> Result<(), NoMemory> {
         ctx.report_node(alloc, node, "empty", findings)

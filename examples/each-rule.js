@@ -1,0 +1,17 @@
+// A problem for each rule that can find one without options.
+export function check(list, value) {
+  debugger;
+  const sparse = [list, , value];
+  if (value == list) return sparse;
+  while (value = list.next()) use(value);;
+  switch (typeof value) {
+    default:
+      break;
+    case 1:
+    case 1:
+      return typeof value === "strnig"
+  }
+  try {} finally {
+    return !list in value;
+  }   
+}
