@@ -20,7 +20,17 @@ use std::process::ExitCode;
 use std::{env, io};
 
 #[cfg(test)]
+mod draws;
+#[cfg(test)]
+mod plain_texts;
+#[cfg(test)]
+mod rule_tests;
+#[cfg(test)]
 mod scope_tests;
+#[cfg(test)]
+mod syntax_tests;
+#[cfg(test)]
+mod syntax_texts;
 #[cfg(test)]
 mod tests;
 #[cfg(test)]

@@ -2,6 +2,7 @@ ghost use Rattle.std.specs.Prelude.{◌≡◌, ◌≤◌, ◌<◌, ◌^◌, All,
 ghost use Rattle.es_config.specs.declared.verdict.Verdict.TheVariants.{Fine};
 ghost use Rattle.es_host.specs.Kits.{NeedsNoOptions};
 
+use crate::draws::Draws;
 use crate::watch::{WatchEmpty, WatchNames};
 use es_files::{MemoryFiles, MemorySink, Sink, SinkFault, SureSink};
 use es_host::{EachFile, EachNode, Kit, Rule};
@@ -9,6 +10,8 @@ use es_rules_plain::{EolLast, NoDebugger};
 use es_run::{Status, run, status_code};
 use std::alloc::Global;
 use std::process::Abort;
+use std::sync::Arc;
+use std::sync::atomic::{AtomicU64, Ordering};
 use std::test::Fail;
 
 /// A run over files in memory: the status, what it printed, what it told, and how often its kit
@@ -242,6 +245,24 @@ fn a_kit_listens_again(rt: HostRuntime) -> Result<(), Fail> {
     assert_eq!(rt; status_code(&first), 3);
     assert_eq!(rt; status_code(&second), 1);
     assert_eq!(rt; kits[0].lints(), 2);
+    Ok(())
+}
+
+/// Each event is told to the first rule and then to the second, before the next one: of the numbers that
+/// they draw, the first has the even ones and the second the odd ones. The tree has six nodes.
+#[test]
+fn events_are_told_one_by_one(rt: HostRuntime) -> Result<(), Fail> {
+    let alloc = rt.alloc();
+    let next = Arc::new(alloc, AtomicU64::new(0))?;
+    let wrong = Arc::new(alloc, AtomicU64::new(0))?;
+    let mut rules = Vec::new(alloc);
+    rules.push(Draws::new(alloc, &next, false, &wrong)?)?;
+    rules.push(Draws::new(alloc, &next, true, &wrong)?)?;
+    let mut files = files_of(alloc, "a.js", "a\n++b\n")?;
+    let ran = run_over(alloc, rules, &mut files, "a.js", None)?;
+    expect(&rt, &ran, 0, "", "");
+    assert_eq!(rt; next.load(Ordering::SeqCst), 24);
+    assert_eq!(rt; wrong.load(Ordering::SeqCst), 0);
     Ok(())
 }
 
