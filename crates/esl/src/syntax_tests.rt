@@ -1,9 +1,11 @@
 //! What rules say of statements, clauses and white space, and of their options.
+use crate::plain_texts::{DEBUGGER, EOL};
 use crate::rule_tests::expect;
 use crate::syntax_texts::{DUPLICATE, FINALLY, RESTRICTED, SEMI, SEMI_OPTIONS, TRAILING};
 use es_host::{EachFile, EachNode};
 use es_rules_plain::{
-    NoDuplicateCase, NoRestrictedSyntax, NoTrailingSpaces, NoUnsafeFinally, Semi,
+    EolLast, NoDebugger, NoDuplicateCase, NoRestrictedSyntax, NoTrailingSpaces, NoUnsafeFinally,
+    Semi,
 };
 use std::test::Fail;
 
@@ -19,6 +21,9 @@ fn what_rules_of_syntax_say(rt: HostRuntime) -> Result<(), Fail> {
         &SEMI,
     )?;
     expect(&rt, alloc, EachFile::new(NoTrailingSpaces), "[]", &TRAILING)?;
+    expect(&rt, alloc, EachFile::new(EolLast), "[]", &EOL)?;
+    let rule = EachNode::new(alloc, NoDebugger);
+    expect(&rt, alloc, rule, "[]", &DEBUGGER)?;
     expect(
         &rt,
         alloc,
