@@ -9,7 +9,7 @@ use Rattle.es_tree.specs.declared.parsed.Parsed.{Parsed}
 use Rattle.es_tree.specs.declared.shape.Shape.{Shape}
 use Rattle.es_tree.specs.Numbering.{rows_of}
 use Rattle.es_config.specs.Settings.{Setting, Settings}
-use Rattle.es_host.specs.Files.{File}
+use Rattle.es_host.specs.Files.{File, analysis}
 
 -- a text, what it is read as, and what is read from it
 pub record Program : Type 0 where
@@ -43,4 +43,4 @@ all_at_error source_type count = record {
 -- the program as so many rules see it, each at error and without options
 abbrev pub file_at_error : ℕ → Program → File
 file_at_error count program =
-    record { text = program.text; parsed = program.parsed; settings = all_at_error program.source_type count }
+    record { text = program.text; parsed = program.parsed; scopes = analysis program.parsed.tree; settings = all_at_error program.source_type count }

@@ -18,6 +18,7 @@ use crate::stylish::{Problem, stylish};
 use es_config::Known;
 use es_host::{FileView, Kit, Rule, listen};
 use es_parser::{ParseFault, one_parse, parse};
+use es_scopes::analyse;
 use es_text::{NoMemory, Report, Source, SourceFault, SourceType, Steps, parts_lie};
 use es_tree::Parsed;
 use std::alloc::Global;
@@ -154,9 +155,11 @@ fn said<R: Rule>(
     ensures once { (kit.new.lints ≡ kit.old.lints) ⊎ (kit.new.lints ≡ one_more kit.old.lints) }
 {
     let config = config_at_error(alloc, source_type, kit.count())?;
+    let scopes = analyse(alloc, &parsed.tree)?;
     let file = FileView {
         source,
         parsed,
+        scopes: &scopes,
         config: &config,
     };
     let reports = in_order(alloc, listen(alloc, &file, kit)?)?;

@@ -1,6 +1,7 @@
 //! What rules say of texts, a table for each rule.
 ghost use Rattle.std.specs.Prelude.{◌≡◌, ◌<◌, IfOk};
 ghost use Rattle.es_text.specs.Texts.{text_bytes};
+ghost use Rattle.es_host.specs.Files.{IsWhole, file_in};
 ghost use Rattle.es_parser.specs.Parsing.{AreInText, IsParsed};
 
 use crate::plain_texts::{
@@ -14,6 +15,7 @@ use es_rules_plain::{
     DefaultCaseLast, Eqeqeq, NoCondAssign, NoEmpty, NoExtraSemi, NoSparseArrays, NoUnsafeNegation,
     ValidTypeof,
 };
+use es_scopes::analyse;
 use es_text::{Items, NoMemory, Report, Severity, Source, SourceType, Span, Steps};
 use es_tree::Parsed;
 use serde_json::Value;
@@ -50,8 +52,7 @@ fn reports_of<R: Rule>(
     file: &FileView,
     kit: &mut Kit<R>,
 ) -> Result<Result<Vec<Report>, Verdict>, NoMemory>
-    requires parsed { IsParsed (text_bytes file.now.source.now) file.now.config.now.source_type file.now.parsed.now }
-    requires spans { AreInText (text_bytes file.now.source.now) file.now.parsed.now.tree }
+    requires { IsWhole (file_in file.now) }
 {
     let settings = file.config.rules.as_slice();
     if kit.count() != 1 || settings.len() != 1 {
@@ -126,9 +127,11 @@ fn told_of<R: Rule>(
     let Ok(parsed) = counted_parse::<Brand>(alloc, &source, config.source_type, blank) else {
         return Ok(String::from_str(alloc, "not parsed")?);
     };
+    let scopes = analyse(alloc, &parsed.tree)?;
     let file = FileView {
         source: &source,
         parsed: &parsed,
+        scopes: &scopes,
         config,
     };
     match reports_of(alloc, &file, kit)? {

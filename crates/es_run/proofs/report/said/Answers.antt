@@ -14,6 +14,6 @@ problems_of-requires g c =
 pub listen-requires-clause-fits : goal.listen-requires-clause-fits
 listen-requires-clause-fits g c =
     let program : Program = record { source_type = c.args.source_type; text = c.args.source.now; parsed = c.args.parsed.now } in
-    subst (λ settings. Fits (meanings_of g.R.Rule.meaning c.args.kit.now) (record { text = c.args.source.now; parsed = c.args.parsed.now; settings = settings }))
+    subst (λ settings. Fits (meanings_of g.R.Rule.meaning c.args.kit.now) (record { text = c.args.source.now; parsed = c.args.parsed.now; scopes = c.in_ok-scopes.scopes.now; settings = settings }))
     (sym (set_here g.R.Rule.meaning c.args.kit.now c.args.source_type c.count.result c.in_ok-config.config c.count.ensures c.in_ok-config.ensures))
     (fits-at-error g.R.Rule.meaning c.args.kit.now program c.requires.options)
