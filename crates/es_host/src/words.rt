@@ -4,14 +4,14 @@ ghost use Rattle.es_text.specs.Spans.{is_part};
 ghost use Rattle.es_text.specs.Texts.{text_bytes};
 ghost use Rattle.es_config.specs.Settings.{have_float, options_of};
 ghost use Rattle.es_config.specs.declared.verdict.Verdict.TheVariants.{Fine};
-ghost use Rattle.es_host.specs.Files.{IsWhole, file_of, rows_in};
+ghost use Rattle.es_host.specs.Files.{IsWhole, file_in, file_of, rows_in};
 ghost use Rattle.es_host.specs.Nodes.{count_places, found, is_plain, of_kind, parent_kind, span_at, takes_none};
 ghost use Rattle.es_host.specs.Spans.{findings_fit, fix_fits};
 
-use crate::file::Ctx;
+use crate::file::{Ctx, FileView};
 use es_config::Verdict;
 use es_selectors::{Atom, Chain, Selector, Spelling};
-use es_text::{Finding, Fix, Items, NoMemory, Span, Txt};
+use es_text::{Finding, Fix, Items, NoMemory, Span, Txt, parts_lie};
 use es_tree::{Attribute, Tree};
 use serde_json::Value;
 use std::alloc::Global;
@@ -74,6 +74,28 @@ pub fn plain(alloc: Global, text: &str) -> Result<Txt, NoMemory>
     ensures { IfOk result (λ txt. txt ≡ text.now) }
 {
     Txt::new(alloc, text)
+}
+
+impl FileView<'_> {
+    /// The bytes of the text that the node covers, or the empty span at the text's start where no node has
+    /// the number.
+    pub fn span_of(&self, node: u32) -> Span
+        requires { IsWhole (file_in self.now) }
+        ensures span { result ≡ span_at (rows_in (file_in self.now)) node }
+        ensures inside { IsTrue (is_part (text_bytes (file_in self.now).text) result) }
+    {
+        if node < self.parsed.tree.count() {
+            let ctx = Ctx {
+                file: self,
+                ancestors: &[],
+            };
+            return ctx.span(node);
+        }
+        parts_lie();
+        // A character begins at the start of a text, as its call says.
+        let _text = self.source.text();
+        Span { start: 0, end: 0 }
+    }
 }
 
 impl Ctx<'_> {

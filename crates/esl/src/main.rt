@@ -26,6 +26,10 @@ mod plain_texts;
 #[cfg(test)]
 mod rule_tests;
 #[cfg(test)]
+mod scope_rule_tests;
+#[cfg(test)]
+mod scope_rule_texts;
+#[cfg(test)]
 mod scope_tests;
 #[cfg(test)]
 mod syntax_tests;

@@ -26,7 +26,7 @@ use std::sync::ledger::{Blank, Ledger};
 use std::test::Fail;
 
 /// A configuration of one rule, at error, with the options of this JSON array.
-fn config_of(alloc: Global, options: &str) -> Result<FileConfig, Fail> {
+pub(crate) fn config_of(alloc: Global, options: &str) -> Result<FileConfig, Fail> {
     let given = match Value::from_str(alloc, options)? {
         Value::Array(given) => given,
         _ => Vec::new(alloc),
@@ -151,13 +151,24 @@ pub(crate) fn expect<R: Rule>(
     options: &str,
     table: &[&str],
 ) -> Result<(), Fail> {
+    let config = config_of(alloc, options)?;
+    expect_set(rt, alloc, rule, &config, table)
+}
+
+/// Asserts what a rule says, as it is set, of the texts of a table.
+pub(crate) fn expect_set<R: Rule>(
+    rt: &impl Abort,
+    alloc: Global,
+    rule: R,
+    config: &FileConfig,
+    table: &[&str],
+) -> Result<(), Fail> {
     let mut rules = Vec::new(alloc);
     rules.push(rule)?;
     let mut kit = Kit::new(rules);
-    let config = config_of(alloc, options)?;
     for case in table {
         let (text, want) = case.split_once(" ->").unwrap_or((*case, ""));
-        let said = told_of(alloc, &mut kit, &config, text)?;
+        let said = told_of(alloc, &mut kit, config, text)?;
         assert_eq!(rt; said.as_str(), want.trim_start(), "{}", text);
     }
     Ok(())

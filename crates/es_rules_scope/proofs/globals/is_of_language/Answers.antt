@@ -1,0 +1,8 @@
+use Rattle.std.proofs.Common.{◌∙◌, ap}
+use Rattle.es_rules_scope.specs.Globals.{is_word}
+use Rattle.es_rules_scope.proofs.WordsLemmas.{words_in}
+use Rattle.es_rules_scope.proofs.globals.is_of_language.Goals as goal
+
+pub returns : goal.returns
+returns c =
+    c.is_word.ensures ∙ words_in c.built_in.result.now c.args.name.now ∙ ap (λ words. is_word words c.args.name.now) c.built_in.ensures

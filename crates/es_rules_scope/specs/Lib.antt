@@ -1,0 +1,9 @@
+pub mod Exports
+pub mod Globals
+pub mod Marks
+pub mod NoConstAssign
+pub mod NoUndef
+pub mod NoUnusedLabels
+pub mod NoUnusedVars
+pub mod Names
+pub mod Uses
