@@ -1,0 +1,4 @@
+pub mod FittingLemmas
+pub mod PartsLemmas
+pub mod ReadingLemmas
+pub mod SpellingLemmas
