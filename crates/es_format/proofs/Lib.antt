@@ -1,0 +1,4 @@
+pub mod JsonLemmas
+pub mod NumbersLemmas
+pub mod StylishLemmas
+pub mod TalliesLemmas

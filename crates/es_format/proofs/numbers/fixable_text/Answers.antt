@@ -1,0 +1,8 @@
+use Rattle.std.proofs.Common.{arith}
+use Rattle.std.proofs.lemmas.Grind.{common_steps}
+use Rattle.es_format.proofs.NumbersLemmas.{encodes-fixable_text}
+use Rattle.es_format.proofs.numbers.fixable_text.Goals as goal
+
+pub returns : goal.returns
+returns c =
+    grind (arith, common_steps, c.in_ok-format.ensures.ok, c.in_ok-errors.ensures, c.in_ok-warnings.ensures, encodes-fixable_text c.args.errors c.args.warnings c.ranges.errors.fits c.ranges.warnings.fits)

@@ -1,0 +1,4 @@
+pub mod Json
+pub mod MessageData
+pub mod Stylish
+pub mod Tallies
