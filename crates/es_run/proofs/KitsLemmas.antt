@@ -1,46 +1,56 @@
 -- The first kit of a run.
-use Rattle.std.proofs.Common.{◌≡◌, ◌∙◌, ℕ, zero, suc, ◌<◌, ◌≤◌, List, [], ◌∷◌, length, map, ap, refl, sym, arith, slice_index_or}
+use Rattle.std.proofs.Common.{◌≡◌, ◌∙◌, ℕ, zero, suc, ◌<◌, ◌≤◌, List, [], ◌∷◌, length, map, ap, refl, sym, subst, arith, slice_index_or, slice_set}
 use Rattle.std.specs.Prelude.{replicate, slice_get, unwrap_or}
 use Rattle.std.proofs.lemmas.List.{length-map, length-replicate}
 use Rattle.std.proofs.lemmas.Option.{unwrap_or-slice_get}
 use Rattle.es_config.specs.declared.verdict.Verdict.TheVariants.{Fine}
-use Rattle.es_text.specs.declared.token.SourceType.{SourceType}
-use Rattle.es_config.specs.declared.file_config.FileConfig.{FileConfig}
-use Rattle.es_config.specs.Settings.{settings_of}
+use Rattle.es_config.specs.Settings.{Settings}
 use Rattle.es_host.specs.Kits.{KitOf, NeedsNoOptions, meanings_of}
-use Rattle.es_host.specs.Meanings.{Fits, Meaning, meaning_at, options_at, silence, unset}
-use Rattle.es_run.specs.Programs.{Program, all_at_error, at_error, file_at_error}
-use Rattle.es_run.specs.Kits.{first_says, program_says}
+use Rattle.es_host.specs.Meanings.{Meaning, meaning_at, silence, unset}
+use Rattle.es_lint.specs.Lintings.{FitsKit}
+use Rattle.es_run.specs.Fresh.{set_for}
+use Rattle.es_run.specs.Programs.{all_at_error, at_error, source_type_of}
+use Rattle.es_lint.specs.Results.{more}
+use Rattle.es_run.specs.Kits.{first_heard, first_meanings, lints_of}
 
--- what the first of the kits says is what the kits say
+-- what the rules of the first of the kits mean
 pub first_kit : {R : Type 0} (meaning : R → Meaning) (kits : List (KitOf R)) (kit : KitOf R) → 1 ≤ length kits → kit ≡ slice_index_or kits 0 kit →
-    program_says meaning kit ≡ first_says meaning kits
+    meanings_of meaning kit ≡ first_meanings meaning kits
 first_kit meaning [] kit some is = absurd (omega (arith, some))
-first_kit meaning (first ∷ rest) kit some is = ap (program_says meaning) is
+first_kit meaning (first ∷ rest) kit some is = ap (meanings_of meaning) is
 
 module _ {R : Type 0} (meaning : R → Meaning) (kit : KitOf R) where
-  -- how many rules a kit has
-  pub rules-count : length (map (λ (m : Meaning). m.id) (meanings_of meaning kit)) ≡ length kit.rules
-  rules-count = length-map (meanings_of meaning kit) (λ (m : Meaning). m.id) ∙ length-map kit.rules meaning
+  rules-count : length (map (λ (m : Meaning). m.id) (meanings_of meaning kit)) ≡ length (meanings_of meaning kit)
+  rules-count = length-map (meanings_of meaning kit) (λ (m : Meaning). m.id)
 
   -- what is set where the kit's count of rules is known
-  pub set_here : (source_type : SourceType) (count : ℕ) (config : FileConfig) → count ≡ length (map (λ (m : Meaning). m.id) (meanings_of meaning kit))
-      → settings_of config ≡ all_at_error source_type count → settings_of config ≡ all_at_error source_type (length kit.rules)
-  set_here source_type count config is set = set ∙ ap (all_at_error source_type) (is ∙ rules-count)
+  pub set_here : (name : List ℕ) (count : ℕ) (settings : Settings) → count ≡ length (map (λ (m : Meaning). m.id) (meanings_of meaning kit))
+      → settings ≡ all_at_error (source_type_of name) count → settings ≡ set_for name (meanings_of meaning kit)
+  set_here name count settings is set = set ∙ ap (all_at_error (source_type_of name)) (is ∙ rules-count)
 
-  module _ (program : Program) (needs : NeedsNoOptions meaning kit) where
-    no_options : (count place : ℕ) → (unwrap_or (slice_get (replicate count at_error) place) unset).options ≡ []
-    no_options zero place = refl
-    no_options (suc count) zero = refl
-    no_options (suc count) (suc place) = no_options count place
+  no_options : (count place : ℕ) → (unwrap_or (slice_get (replicate count at_error) place) unset).options ≡ []
+  no_options zero place = refl
+  no_options (suc count) zero = refl
+  no_options (suc count) (suc place) = no_options count place
 
+  module _ (name : List ℕ) (needs : NeedsNoOptions meaning kit) where
     fine : (place : ℕ) → place < length (meanings_of meaning kit)
-        → (meaning_at (meanings_of meaning kit) place).verdict (options_at (file_at_error (length kit.rules) program) place) ≡ Fine
+        → (meaning_at (meanings_of meaning kit) place).verdict (unwrap_or (slice_get (set_for name (meanings_of meaning kit)).rules place) unset).options ≡ Fine
     fine place within =
-        ap (λ (m : Meaning). m.verdict (options_at (file_at_error (length kit.rules) program) place)) (unwrap_or-slice_get (meanings_of meaning kit) place silence)
-        ∙ ap (slice_index_or (meanings_of meaning kit) place silence).verdict (no_options (length kit.rules) place)
+        ap (λ (m : Meaning). m.verdict (unwrap_or (slice_get (set_for name (meanings_of meaning kit)).rules place) unset).options)
+        (unwrap_or-slice_get (meanings_of meaning kit) place silence)
+        ∙ ap (slice_index_or (meanings_of meaning kit) place silence).verdict (no_options (length (meanings_of meaning kit)) place)
         ∙ needs place silence within
 
     -- the settings of a run fit its kit
-    pub fits-at-error : Fits (meanings_of meaning kit) (file_at_error (length kit.rules) program)
-    fits-at-error = record { count = length-replicate (length kit.rules) at_error ∙ sym (length-map kit.rules meaning); fine = fine }
+    pub fits-at-error : (settings : Settings) → settings ≡ set_for name (meanings_of meaning kit) → FitsKit (meanings_of meaning kit) settings
+    fits-at-error settings is =
+        subst (FitsKit (meanings_of meaning kit)) (sym is)
+        (record { count = length-replicate (length (meanings_of meaning kit)) at_error; fine = fine })
+
+-- the first kit listened so often more
+pub first_listened : {R : Type 0} (kits : List (KitOf R)) (old new : KitOf R) (times : ℕ) → 1 ≤ length kits → old ≡ slice_index_or kits 0 old →
+    new.lints ≡ more times old.lints → lints_of (slice_set kits 0 new) ≡ first_heard times (lints_of kits)
+first_listened [] old new times some is lints = absurd (omega (arith, some))
+first_listened (first ∷ rest) old new times some is lints =
+    ap (λ count. count ∷ lints_of rest) (lints ∙ ap (λ kit. more times kit.lints) is)

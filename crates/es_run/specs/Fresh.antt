@@ -1,24 +1,30 @@
--- A fresh run: what is printed, told and answered, by what the rules say of a file, by the arguments and by what is held.
+-- A fresh run: what is printed, told and answered, by what the rules mean, by the arguments and by what is held.
 -- Nothing here knows of a fault of the outside, nor of being out of memory.
-use Rattle.std.specs.Prelude.{◌≡◌, ℕ, ◌<◌, ◌≤◌, List, [], ◌∷◌, length, Option, Some, None}
+use Rattle.std.specs.Prelude.{◌≡◌, ℕ, ◌<◌, ◌≤◌, Bool, List, [], ◌∷◌, length, Option, Some, None, encode_utf8_all, if◌then◌else◌}
+use Rattle.std.specs.List.{list_any}
 use Rattle.std.specs.Str.{chars}
 use Rattle.std.specs.FinMap as finite
-use Rattle.es_text.specs.declared.finding.Report.{Report}
-use Rattle.es_text.specs.Texts.{text_of}
-use Rattle.es_run.specs.Programs.{Program}
+use Rattle.es_text.specs.SourceFaults.{most_bytes}
+use Rattle.es_text.specs.Texts.{Text, text_of}
+use Rattle.es_config.specs.Settings.{Settings}
+use Rattle.es_host.specs.Meanings.{Meaning}
+use Rattle.es_format.specs.Stylish.{error, stylish_of}
+use Rattle.es_messages.specs.declared.message.FileResult.{FileResult}
+use Rattle.es_messages.specs.declared.message.Message.{Message}
+use Rattle.es_lint.specs.Lintings.{Linting, Lints}
+use Rattle.es_lint.specs.Results.{told_of}
 use Rattle.es_files.specs.Outside.{Held}
 use Rattle.es_run.specs.declared.status.Status.{Status}
 use Rattle.es_run.specs.declared.status.Status.TheVariants.{Clean, Problems, Stopped}
 use Rattle.es_run.specs.declared.status.StopCause.{StopCause}
 use Rattle.es_run.specs.declared.status.StopCause.TheVariants.{BadWords, NoFile, TooLong}
-use Rattle.es_run.specs.Messages.{Linting, Lints, source_type_of}
-use Rattle.es_run.specs.Statuses.{fault_line}
-use Rattle.es_run.specs.Stylish.{Problem, stylish_of}
 use Rattle.es_run.specs.Arguments.{Names, NoName}
+use Rattle.es_run.specs.Programs.{all_at_error, source_type_of}
+use Rattle.es_run.specs.Statuses.{fault_line}
 
--- what a run is given: what the rules say of a file, the arguments as their bytes, and what is held
+-- what a run is given: what the rules mean, the arguments as their bytes, and what is held
 pub record Given : Type 0 where
-  pub says : Program → List Report
+  pub meanings : List Meaning
   pub arguments : List (List ℕ)
   pub held : Held
 
@@ -33,39 +39,49 @@ pub record Answer : Type 0 where
 abbrev pub stopped : StopCause → Answer
 stopped cause = record { status = Stopped cause; output = []; line = fault_line cause; heard = 0 }
 
--- a file of which nothing is printed is clean
-abbrev pub status_of : List Problem → Status
-status_of [] = Clean
-status_of (problem ∷ problems) = Problems
+-- a file without an error is clean
+abbrev pub has_error : List Message → Bool
+has_error messages = list_any error messages
 
--- the answer of a run that prints what the linting of a file of this name gives
-abbrev pub reported : List ℕ → Linting → Answer
-reported name linting = record {
-  status = status_of linting.problems;
-  output = stylish_of name linting.problems;
+abbrev pub status_of : List Message → Status
+status_of messages = if has_error messages then Problems else Clean
+
+-- the bytes of the stylish report on a file of this name, of which linting gave this
+abbrev pub report_of : List ℕ → FileResult → List ℕ
+report_of name result = encode_utf8_all (stylish_of ((chars name, result) ∷ []))
+
+-- the answer of a run that prints this report, where the rules were heard so often
+abbrev pub reported : List ℕ → FileResult → ℕ → Answer
+reported name result heard = record {
+  status = status_of result.messages;
+  output = report_of name result;
   line = [];
-  heard = linting.heard;
+  heard = heard;
 }
 
--- how many bytes of a file are read
-abbrev pub most_bytes : ℕ
-most_bytes = 2097152
+-- the answer of a run that prints what linting this text gives
+abbrev pub reported_of : List ℕ → Text → Linting → Answer
+reported_of name text linting = reported name (told_of text linting) linting.heard
+
+-- what is set for a file of this name, with each of the rules at error and without options
+abbrev pub set_for : List ℕ → List Meaning → Settings
+set_for name meanings = all_at_error (source_type_of name) (length meanings)
 
 -- the answer for a file of this name and these bytes
-pub data OfBytes (says : Program → List Report) (name bytes : List ℕ) (answer : Answer) : Type 0 where
-  too_long : most_bytes < length bytes → answer ≡ stopped (TooLong (chars name)) → OfBytes says name bytes answer
-  linted : (linting : Linting) → length bytes ≤ most_bytes → Lints says (source_type_of name) (text_of bytes) linting →
-      answer ≡ reported name linting → OfBytes says name bytes answer
+pub data OfBytes (meanings : List Meaning) (name bytes : List ℕ) (answer : Answer) : Type 0 where
+  too_long : most_bytes < length bytes → answer ≡ stopped (TooLong (chars name)) → OfBytes meanings name bytes answer
+  linted : (linting : Linting) → length bytes ≤ most_bytes → Lints meanings (set_for name meanings) (text_of bytes) linting →
+      answer ≡ reported_of name (text_of bytes) linting → OfBytes meanings name bytes answer
 
 -- the answer for a name, under which these bytes are held, or none
-pub data OfName (says : Program → List Report) (name : List ℕ) (found : Option (List ℕ)) (answer : Answer) : Type 0 where
-  no_file : found ≡ None → answer ≡ stopped (NoFile (chars name)) → OfName says name found answer
-  held : (bytes : List ℕ) → found ≡ Some bytes → OfBytes says name bytes answer → OfName says name found answer
+pub data OfName (meanings : List Meaning) (name : List ℕ) (found : Option (List ℕ)) (answer : Answer) : Type 0 where
+  no_file : found ≡ None → answer ≡ stopped (NoFile (chars name)) → OfName meanings name found answer
+  held : (bytes : List ℕ) → found ≡ Some bytes → OfBytes meanings name bytes answer → OfName meanings name found answer
 
 -- the answer of a fresh run
 pub data Fresh (given : Given) (answer : Answer) : Type 0 where
   bad_words : NoName given.arguments → answer ≡ stopped BadWords → Fresh given answer
-  named : (name : List ℕ) → Names given.arguments name → OfName given.says name (finite.get given.held name) answer →
+  named : (name : List ℕ) → Names given.arguments name → OfName given.meanings name (finite.get given.held name) answer →
       Fresh given answer
 
 -- a fresh run gives this answer and no other

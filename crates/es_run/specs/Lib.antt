@@ -1,10 +1,7 @@
 pub mod Arguments
 pub mod Fresh
 pub mod Kits
-pub mod Messages
-pub mod Order
 pub mod Programs
 pub mod Runs
 pub mod Stages
 pub mod Statuses
-pub mod Stylish

@@ -1,30 +1,14 @@
--- What is read from a text, and what a run sets for its linting.
-use Rattle.std.specs.Prelude.{ℕ, true, List, [], Some, replicate}
+-- What a run sets for the linting of a file.
+use Rattle.std.specs.Prelude.{ℕ, true, List, [], Some, codes, nat_eq, replicate, if◌then◌else◌}
+use Rattle.std.specs.List.{ends_with}
 use Rattle.es_text.specs.declared.finding.Severity.TheVariants.{Error, Warn}
 use Rattle.es_text.specs.declared.token.SourceType.{SourceType}
-use Rattle.es_text.specs.declared.token.Token.{Token}
-use Rattle.es_text.specs.Texts.{Text, text_bytes}
-use Rattle.es_text.specs.Tokens.{comments_between}
-use Rattle.es_tree.specs.declared.parsed.Parsed.{Parsed}
-use Rattle.es_tree.specs.declared.shape.Shape.{Shape}
-use Rattle.es_tree.specs.Numbering.{rows_of}
+use Rattle.es_text.specs.declared.token.SourceType.TheVariants.{Commonjs, Module}
 use Rattle.es_config.specs.Settings.{Setting, Settings}
-use Rattle.es_host.specs.Files.{File, analysis}
 
--- a text, what it is read as, and what is read from it
-pub record Program : Type 0 where
-  pub source_type : SourceType
-  pub text : Text
-  pub parsed : Parsed
-
--- the tree's nodes by their numbers, the tokens, and the comments between them
-abbrev pub parsed_of : Text → Shape → List Token → Parsed
-parsed_of text tree tokens =
-    record { tree = rows_of tree; tokens = tokens; comments = comments_between (text_bytes text) 0 tokens }
-
-abbrev pub program_of : SourceType → Text → Shape → List Token → Program
-program_of source_type text tree tokens =
-    record { source_type = source_type; text = text; parsed = parsed_of text tree tokens }
+-- as ESLint's flat configuration has it: `.cjs` is CommonJS, and every other name a module
+unfoldable pub source_type_of : List ℕ → SourceType
+source_type_of name = if ends_with nat_eq name (codes ".cjs") then Commonjs else Module
 
 -- a rule at error, without options
 abbrev pub at_error : Setting
@@ -39,8 +23,3 @@ all_at_error source_type count = record {
   unused = Some Warn;
   rules = replicate count at_error;
 }
-
--- the program as so many rules see it, each at error and without options
-abbrev pub file_at_error : ℕ → Program → File
-file_at_error count program =
-    record { text = program.text; parsed = program.parsed; scopes = analysis program.parsed.tree; settings = all_at_error program.source_type count }

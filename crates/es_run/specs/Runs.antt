@@ -2,8 +2,7 @@
 use Rattle.std.specs.Prelude.{◌≡◌, ℕ, ◌⊎◌, List, [], map, String, string_bytes}
 use Rattle.std.specs.declared.alloc.Global.{Global}
 use Rattle.std.specs.Str.{chars}
-use Rattle.es_text.specs.declared.finding.Report.{Report}
-use Rattle.es_run.specs.Programs.{Program}
+use Rattle.es_host.specs.Meanings.{Meaning}
 use Rattle.es_files.specs.Outside.{FilesState, HasFailed, Held, SentPart, SinkState, reading, with_sent}
 use Rattle.es_run.specs.declared.status.Status.{Status}
 use Rattle.es_run.specs.declared.status.Status.TheVariants.{Clean, Problems, Stopped, NoMemory}
@@ -62,8 +61,8 @@ IsUnlessNoMemory status result = (result ≡ status) ⊎ (result ≡ NoMemory)
 -- ---- what a run does
 
 -- what a run is given
-abbrev pub given : (Program → List Report) → List (String Global) → Held → Given
-given says arguments held = record { says = says; arguments = map string_bytes arguments; held = held }
+abbrev pub given : List Meaning → List (String Global) → Held → Given
+given meanings arguments held = record { meanings = meanings; arguments = map string_bytes arguments; held = held }
 
 -- the two sinks of a run
 pub record Sinks : Type 0 where

@@ -1,11 +1,9 @@
 -- What the stages of a run answer.
-use Rattle.std.specs.Prelude.{◌≡◌, ℕ, ◌⊎◌, List, [], ◌∷◌, map, Bool, Option, Some, None, Result, Ok, Err, string_bytes, if◌then◌else◌}
-use Rattle.es_text.specs.declared.finding.Report.{Report}
+use Rattle.std.specs.Prelude.{◌≡◌, ℕ, ◌⊎◌, List, [], Bool, Result, Ok, Err, string_bytes, if◌then◌else◌}
 use Rattle.es_text.specs.Texts.{text_of}
-use Rattle.es_run.specs.Programs.{Program}
-use Rattle.es_parser.specs.declared.parser.ParseFault.{ParseFault}
-use Rattle.es_parser.specs.declared.parser.ParseFault.TheVariants as parse
-use Rattle.es_parser.specs.Parsing.{Deep, Unread, Wrong}
+use Rattle.es_host.specs.Meanings.{Meaning}
+use Rattle.es_lint.specs.Lintings.{IsTheLinting, Linting}
+use Rattle.es_lint.specs.Results.{more, told_of}
 use Rattle.es_files.specs.declared.outside.ReadFault.{ReadFault}
 use Rattle.es_files.specs.declared.outside.ReadFault.TheVariants as read
 use Rattle.es_files.specs.Outside.{FilesState}
@@ -14,63 +12,32 @@ use Rattle.es_run.specs.declared.status.Fault.TheVariants as fault
 use Rattle.es_run.specs.declared.status.Status.{Status}
 use Rattle.es_run.specs.declared.status.Status.TheVariants as status
 use Rattle.es_run.specs.declared.status.StopCause.TheVariants as cause
-use Rattle.es_run.specs.declared.report.Found.{Found}
 use Rattle.es_run.specs.declared.report.Outcome.{Outcome}
-use Rattle.es_run.specs.Fresh.{Answer, Given, IsTheAnswer, status_of, stopped}
-use Rattle.es_run.specs.Kits.{ListensAtMostOnce, first_heard}
-use Rattle.es_run.specs.Messages.{Fatal, IsTheLinting, Linting, fatal_of, fatal_problem, problem_of, source_type_of}
-use Rattle.es_run.specs.Order.{IsInOrder}
-use Rattle.es_run.specs.Runs.{IsSettled, IsUnread}
-use Rattle.es_run.specs.Stylish.{Problem, stylish_of}
 use Rattle.es_run.specs.Arguments.{NoName}
+use Rattle.es_run.specs.Fresh.{Answer, Given, IsTheAnswer, report_of, set_for, status_of, stopped}
+use Rattle.es_run.specs.Kits.{ListensAtMostOnce, first_heard}
+use Rattle.es_run.specs.Runs.{IsSettled, IsUnread}
 
 -- the status of a run that printed its report
 abbrev pub done_status : Bool → Status
 done_status clean = if clean then status.Clean else status.Problems
 
--- once or never
-abbrev pub times : Bool → ℕ
-times once = if once then 1 else 0
-
--- the answer of a run that prints this
-abbrev pub answer_of : Outcome → Answer
-answer_of outcome = record {
+-- the answer of a run that prints this, of which the rules were heard so often
+abbrev pub answer_of : Outcome → ℕ → Answer
+answer_of outcome heard = record {
   status = done_status outcome.clean;
   output = string_bytes outcome.text;
   line = [];
-  heard = times outcome.heard;
+  heard = heard;
 }
 
--- what linting gives
-abbrev pub linting_of : Found → Linting
-linting_of found = record { problems = found.problems.items; heard = times found.heard }
-
--- what is printed of what the rules say of a program
-pub record IsSaid (says : Program → List Report) (program : Program) (problems : List Problem) : Type 0 where
-  pub reports : List Report
-  pub ordered : IsInOrder (says program) reports
-  pub all : problems ≡ map (problem_of program.text.characters) reports
-
--- the message of a fault of parsing; being out of memory has none
-abbrev pub fault_fatal : ParseFault → Option Fatal
-fault_fatal (parse.Unread at) = fatal_of (Unread at)
-fault_fatal (parse.Deep at) = fatal_of (Deep at)
-fault_fatal (parse.Early code span) = fatal_of (Wrong (record { code = code; span = span }))
-fault_fatal parse.NoMemory = None
-
--- what is printed of a text that isn't parsed for this fault
-pub record IsUnparsed (characters : List ℕ) (fault : ParseFault) (problems : List Problem) : Type 0 where
-  pub fatal : Fatal
-  pub told : fault_fatal fault ≡ Some fatal
-  pub one : problems ≡ fatal_problem characters fatal ∷ []
-
--- the report on a file of this name and these bytes, of which the rules say this
-pub record IsReportOn (says : Program → List Report) (name bytes : List ℕ) (outcome : Outcome) : Type 0 where
+-- the report on a file of this name and these bytes, where the rules mean this and their kit's count of lints goes up
+pub record IsReportOn (meanings : List Meaning) (name bytes : List ℕ) (before now : ℕ) (outcome : Outcome) : Type 0 where
   pub linting : Linting
-  pub lints : IsTheLinting says (source_type_of name) (text_of bytes) linting
-  pub status : done_status outcome.clean ≡ status_of linting.problems
-  pub text : string_bytes outcome.text ≡ stylish_of name linting.problems
-  pub heard : times outcome.heard ≡ linting.heard
+  pub lints : IsTheLinting meanings (set_for name meanings) (text_of bytes) linting
+  pub status : done_status outcome.clean ≡ status_of (told_of (text_of bytes) linting).messages
+  pub text : string_bytes outcome.text ≡ report_of name (told_of (text_of bytes) linting)
+  pub heard : now ≡ more linting.heard before
 
 -- the fault that a fault of reading a name is
 abbrev pub fault_of : ReadFault → List ℕ → Fault
@@ -79,11 +46,17 @@ fault_of read.TooLong name = fault.Stop (cause.TooLong name)
 fault_of read.Failed name = fault.Stop (cause.CannotRead name)
 fault_of read.NoMemory name = fault.NoMemory
 
+-- the answer of a fresh run is this outcome's, and the rules of the first kit listened as often as its
+pub record IsForetold (given : Given) (before now : List ℕ) (outcome : Outcome) : Type 0 where
+  pub heard : ℕ
+  pub fresh : IsTheAnswer given (answer_of outcome heard)
+  pub listens : now ≡ first_heard heard before
+
 -- what the stages before the printing answer is what a fresh run gives, where it settles the run
-abbrev pub Foretells : Given → Result Outcome Fault → Type 0
-Foretells given (Ok outcome) = IsTheAnswer given (answer_of outcome)
-Foretells given (Err (fault.Stop why)) = IsSettled (status.Stopped why) → IsTheAnswer given (stopped why)
-Foretells given (Err fault.NoMemory) = Unit {0}
+abbrev pub Foretells : Given → List ℕ → List ℕ → Result Outcome Fault → Type 0
+Foretells given before now (Ok outcome) = IsForetold given before now outcome
+Foretells given before now (Err (fault.Stop why)) = IsSettled (status.Stopped why) → IsTheAnswer given (stopped why)
+Foretells given before now (Err fault.NoMemory) = Unit {0}
 
 -- what each fault of the stages before the printing is to blame on, whatever is told of the files
 abbrev pub Blames : List (List ℕ) → FilesState → FilesState → Fault → Type 0
@@ -94,9 +67,9 @@ Blames arguments before now (fault.Stop (cause.CannotRead name)) = IsUnread argu
 Blames arguments before now (fault.Stop cause.CannotPrint) = ⊥
 Blames arguments before now fault.NoMemory = Unit {0}
 
--- the first kit listens where the file is parsed, and may have listened where the run was out of memory; others never do
+-- the first kit may have listened once where there is an outcome or the run was out of memory; others never do
 abbrev pub Listened : Result Outcome Fault → List ℕ → List ℕ → Type 0
-Listened (Ok outcome) before now = now ≡ first_heard (times outcome.heard) before
+Listened (Ok outcome) before now = ListensAtMostOnce before now
 Listened (Err (fault.Stop why)) before now = now ≡ before
 Listened (Err fault.NoMemory) before now = ListensAtMostOnce before now
 

@@ -4,7 +4,7 @@ use Rattle.es_run.specs.declared.status.Status.{Status}
 use Rattle.es_run.specs.declared.status.Status.TheVariants.{Clean, Problems, Stopped, NoMemory}
 use Rattle.es_run.specs.declared.status.StopCause.{StopCause}
 use Rattle.es_run.specs.declared.status.StopCause.TheVariants.{BadWords, NoFile, TooLong, CannotRead, CannotPrint}
-use Rattle.es_run.specs.Stylish.{line_end}
+use Rattle.es_format.specs.Stylish.{line_end}
 
 abbrev pub status_code_of : Status → ℕ
 status_code_of Clean = 0

@@ -3,13 +3,10 @@
 #![tactic(auto)]
 
 mod arguments;
-mod fatal;
-mod order;
 mod report;
 mod runner;
 mod settings;
 mod status;
-mod stylish;
 
 pub use runner::run;
 pub use status::{Status, StopCause, status_code};

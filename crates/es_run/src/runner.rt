@@ -4,7 +4,7 @@ ghost use Rattle.std.specs.Cow.{cow_str_bytes};
 ghost use Rattle.std.specs.Option.{ForSome};
 ghost use Rattle.es_files.specs.Outside.{FilesFailed, SentPart, SinkFailed, with_sent};
 ghost use Rattle.es_host.specs.Kits.{NeedsNoOptions};
-ghost use Rattle.es_run.specs.Kits.{ListensAtMostOnce, first_heard, first_says, lints_of, of_rules};
+ghost use Rattle.es_run.specs.Kits.{ListensAtMostOnce, first_meanings, lints_of, of_rules};
 ghost use Rattle.es_run.specs.Runs.{DoesAsFresh, IfCannotRead, IsDone, IsReported, IsSettled, IsSilent, IsTold, IsUnlessNoMemory, IsUnread, ListensAsFresh, PrintsPart, given, sinks};
 ghost use Rattle.es_run.specs.Stages.{Blames, Foretells, IsPrintStatus, Listened, done_status, fault_of};
 ghost use Rattle.es_run.specs.Statuses.{fault_line, line_about};
@@ -110,7 +110,8 @@ fn lint<R: Rule, F: Files>(
     ensures meanings { of_rules R.meaning kits.new.items ≡ of_rules R.meaning kits.old.items }
     ensures lints { Listened result (lints_of kits.old.items) (lints_of kits.new.items) }
     ensures fresh { ForSome (F.state files.old).holds (λ held.
-        Foretells (given (first_says R.meaning kits.old.items) words.now held) result) }
+        Foretells (given (first_meanings R.meaning kits.old.items) words.now held)
+        (lints_of kits.old.items) (lints_of kits.new.items) result) }
     ensures blame { IfErr result
         (Blames (map string_bytes words.now) (F.state files.old) (F.state files.new)) }
     ensures still { OnOk result (F.state files.new ≡ F.state files.old) }
@@ -181,7 +182,7 @@ pub fn run<R: Rule, F: Files, O: Sink, E: Sink>(
 
     // A settled status comes with the output and the line of a fresh run, which gives nothing else.
     ensures fresh { IsSettled result → ForSome (F.state files.old).holds (λ held.
-        DoesAsFresh (given (first_says R.meaning kits.old.items) words.now held) result
+        DoesAsFresh (given (first_meanings R.meaning kits.old.items) words.now held) result
         (sinks (O.state out.old) (E.state err.old)) (sinks (O.state out.new) (E.state err.new))) }
 
     // Without a fault of the outside the status is settled, or it was out of memory.
@@ -202,7 +203,7 @@ pub fn run<R: Rule, F: Files, O: Sink, E: Sink>(
         SinkFailed (O.state out.old) (O.state out.new) }
     ensures part { result ≡ Status.Stopped StopCause.CannotPrint →
         ForSome (F.state files.old).holds (λ held.
-        PrintsPart (given (first_says R.meaning kits.old.items) words.now held)
+        PrintsPart (given (first_meanings R.meaning kits.old.items) words.now held)
         (O.state out.old) (O.state out.new)) }
 
     // Each cause has its line, and a run that prints its report tells nothing.
@@ -218,7 +219,7 @@ pub fn run<R: Rule, F: Files, O: Sink, E: Sink>(
         (O.state out.new ≡ O.state out.old) ⊎ SinkFailed (O.state out.old) (O.state out.new) }
     ensures no_more { result ≡ Status.NoMemory → ForSome (F.state files.old).holds (λ held.
         (O.state out.new ≡ O.state out.old)
-        ⊎ PrintsPart (given (first_says R.meaning kits.old.items) words.now held)
+        ⊎ PrintsPart (given (first_meanings R.meaning kits.old.items) words.now held)
         (O.state out.old) (O.state out.new)) }
 
     // A run changes no meaning of a rule of the kits.
@@ -226,7 +227,7 @@ pub fn run<R: Rule, F: Files, O: Sink, E: Sink>(
 
     // The first kit listens once where the file is parsed, and no other ever does.
     ensures listens { IsReported result → ForSome (F.state files.old).holds (λ held.
-        ListensAsFresh (given (first_says R.meaning kits.old.items) words.now held)
+        ListensAsFresh (given (first_meanings R.meaning kits.old.items) words.now held)
         (lints_of kits.old.items) (lints_of kits.new.items)) }
     ensures rests { IsSilent result → lints_of kits.new.items ≡ lints_of kits.old.items }
     ensures once { ListensAtMostOnce (lints_of kits.old.items) (lints_of kits.new.items) }

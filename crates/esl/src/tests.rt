@@ -101,20 +101,22 @@ fn expect(rt: &impl Abort, ran: &Ran, status: u8, out: &str, err: &str) {
     assert_eq!(rt; ran.err.got(), err.as_bytes());
 }
 
-/// A file with its text, what is printed of it, and whether the rule was heard.
+/// A file with its text, what is printed of it, the exit status, and whether the rule was heard.
 struct Case {
     name: &'static str,
     text: &'static str,
     report: &'static str,
+    status: u8,
     heard: bool,
 }
 
 // The places are counted by hand. A text that isn't parsed has one message, whatever stands before.
-static CASES: [Case; 6] = [
+static CASES: [Case; 10] = [
     Case {
         name: "a.js",
         text: "a()\n",
         report: "",
+        status: 0,
         heard: true,
     },
     Case {
@@ -126,6 +128,7 @@ a.js
 
 ✖ 1 problem (1 error, 0 warnings)
 ",
+        status: 1,
         heard: true,
     },
     Case {
@@ -138,12 +141,14 @@ a.js
 
 ✖ 2 problems (2 errors, 0 warnings)
 ",
+        status: 1,
         heard: true,
     },
     Case {
         name: "a.cjs",
         text: "return;\n",
         report: "",
+        status: 0,
         heard: true,
     },
     Case {
@@ -155,6 +160,7 @@ a.js
 
 ✖ 1 problem (1 error, 0 warnings)
 ",
+        status: 1,
         heard: false,
     },
     Case {
@@ -166,7 +172,58 @@ a.js
 
 ✖ 1 problem (1 error, 0 warnings)
 ",
+        status: 1,
         heard: false,
+    },
+    Case {
+        name: "a.js",
+        text: "// eslint-disable-next-line no-debugger\na;\n",
+        report: "
+a.js
+  1:1  warning  Unused eslint-disable directive (no problems were reported from 'no-debugger').
+
+✖ 1 problem (0 errors, 1 warning)
+",
+        status: 0,
+        heard: true,
+    },
+    Case {
+        name: "a.js",
+        text: "/* eslint-disable no-debugger */ debugger;\n/* eslint-enable */ debugger;\n",
+        report: "
+a.js
+  2:21  error  Unexpected 'debugger' statement.  no-debugger
+
+✖ 1 problem (1 error, 0 warnings)
+",
+        status: 1,
+        heard: true,
+    },
+    Case {
+        name: "a.js",
+        text: "debugger; /* eslint 'no-debugger': \"off\", no-debugger: 1 */\n/* eslint semi: 2, a */\n",
+        report: "
+a.js
+  1:1  warning  Unexpected 'debugger' statement.  no-debugger
+  2:1  error    Bad inline entry 'a'.
+  2:1  error    Bad inline entry 'semi: 2'.
+
+✖ 3 problems (2 errors, 1 warning)
+",
+        status: 1,
+        heard: true,
+    },
+    Case {
+        name: "a.js",
+        text: "debugger; // eslint-disable-line -- kept\n/* eslint no-debugger: 0 */",
+        report: "
+a.js
+  1:11  warning  Unused eslint-disable directive (no problems were reported).
+
+✖ 1 problem (0 errors, 1 warning)
+",
+        status: 0,
+        heard: true,
     },
 ];
 
@@ -176,13 +233,7 @@ fn reports(rt: HostRuntime) -> Result<(), Fail> {
         let mut files = files_of(rt.alloc(), case.name, case.text)?;
         let rules = plain_rules(rt.alloc())?;
         let ran = run_over(rt.alloc(), rules, &mut files, case.name, None)?;
-        expect(
-            &rt,
-            &ran,
-            u8::from(!case.report.is_empty()),
-            case.report,
-            "",
-        );
+        expect(&rt, &ran, case.status, case.report, "");
         assert_eq!(rt; ran.lints, u64::from(case.heard), "{}", case.text);
     }
     Ok(())

@@ -1,4 +1,0 @@
-use Rattle.es_run.proofs.report.lint.Given as goal
-
-abbrev pub ghosts-counted_parse : goal.ghosts-counted_parse
-ghosts-counted_parse g a = record { name = a.blank.name; parts = a.blank.parts }

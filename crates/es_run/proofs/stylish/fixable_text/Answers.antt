@@ -1,8 +1,0 @@
-use Rattle.std.proofs.Common.{arith}
-use Rattle.std.proofs.lemmas.Grind.{common_steps}
-use Rattle.es_run.proofs.StylishLemmas.{encodes-fixable_text}
-use Rattle.es_run.proofs.stylish.fixable_text.Goals as goal
-
-pub returns : goal.returns
-returns c =
-    grind (arith, common_steps, c.in_ok-format.ensures.ok, c.in_ok-errors.ensures, c.in_ok-warnings.ensures, encodes-fixable_text c.args.number c.ranges.number.fits)
