@@ -15,6 +15,7 @@ use Rattle.std.specs.Prelude.{◌&&◌, length, nat_lt, option_and_then, option_
 use Rattle.std.specs.List.{list_all}
 use Rattle.std.specs.Option.{option_map_or, unwrap_or}
 use Rattle.std.proofs.lemmas.Bool.{ltb-true}
+use Rattle.es_parser.specs.Sketches.{all_lower}
 
 pub never_lower : IsNeverLower → (kind : ℕ) (children : List Child) (shape : Shape) → height shape ≤ height (with_children kind children shape)
 never_lower law kind [] shape = omega arith
@@ -30,10 +31,6 @@ too_high law above kind limit child rest shape within high =
     let one = above shape (index_in kind child.field) child.shape within in
     let all = never_lower law kind rest (with_child shape (index_in kind child.field) child.shape) in
     omega (arith, one, all, high)
-
--- children that are lower than a limit
-abbrev pub all_lower : ℕ → List Child → Bool
-all_lower limit children = list_all (λ child. nat_lt (height_of child.shape) limit) children
 
 and_true : (a b : Bool) → a && b ≡ true → (a ≡ true) × (b ≡ true)
 and_true true b h = (refl, h)

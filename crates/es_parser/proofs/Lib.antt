@@ -11,5 +11,6 @@ mod PlacesLemmas
 mod ProgramLemmas
 mod ReadingLemmas
 mod SetsLemmas
+mod SketchesLemmas
 mod TerminalsLemmas
 mod TextSetsLemmas

@@ -6,5 +6,6 @@ pub mod Fronts
 pub mod Kept
 pub mod Parsing
 pub mod Programs
+pub mod Sketches
 pub mod TextSets
 pub mod Turns

@@ -200,6 +200,28 @@ fn is_computed(settings: &[Setting]) -> bool
     settings.iter().any(|setting| name_of(setting.field) == name_of(Field::Computed))
 }
 
+/// Whether the last of the nodes is an Identifier or a MemberExpression.
+pub fn is_target(children: &[Child]) -> Option<bool>
+    ensures { result ≡ option_map is_plain_target (last_shape children.now) }
+{
+    let last = last_shape(children)?;
+    Some(is_plain_target(last))
+}
+
+/// Whether the condition asks what was read.
+pub fn is_of_draft(condition: Condition) -> bool
+    ensures { result ≡ is_of_draft condition }
+{
+    match condition {
+        Condition::PlainTarget
+        | Condition::PatternHasValue
+        | Condition::NoLogicalOperator
+        | Condition::NoUnaryOperator
+        | Condition::ConstructorKey => true,
+        _ => false,
+    }
+}
+
 /// Whether a condition on what was read holds.
 #[tactic(auto, unfolding(es_grammar::specs::Conditions::holds))]
 fn holds_of(draft: &Draft, condition: Condition) -> bool

@@ -42,11 +42,10 @@ fn append<T: Drop>(first: Items<T>, more: Items<T>) -> Result<Items<T>, NoMemory
     if more.len() == 0 {
         return Ok(first);
     }
-    let mut all = first;
-    for item in more.into_vec() {
-        all.push(item)?;
-    }
-    Ok(all)
+    let mut all = first.into_vec();
+    let mut more = more.into_vec();
+    all.append(&mut more)?;
+    Ok(Items::from_vec(all))
 }
 
 /// What was read first, and then more.

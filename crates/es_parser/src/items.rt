@@ -1,17 +1,16 @@
 //! The items of a program.
-ghost use Rattle.std.specs.Prelude.{◌≡◌, nat_lt, Some, IfOk, IfSome, IfNone, List, false, true};
+ghost use Rattle.std.specs.Prelude.{◌≡◌, Some, IfOk, IfSome, IfNone, List, false, true};
 ghost use Rattle.std.specs.Str.{IsCharBoundary};
 ghost use Rattle.es_text.specs.Tokens.{first_offset, token};
 ghost use Rattle.es_text.specs.Texts.{text_bytes};
-ghost use Rattle.es_tree.specs.Shapes.{height_of};
 ghost use Rattle.es_grammar.specs.Conditions.{is_end};
-ghost use Rattle.es_grammar.specs.Parts.{greatest_height};
 ghost use Rattle.es_grammar.specs.Trees.{is_at_end, is_low, is_module, item_of, item_spot};
 ghost use Rattle.es_parser.specs.Programs.{IsItem};
 
 use crate::reader::Reader;
 use crate::reading::read;
-use es_grammar::{Child, Context, Draft, GREATEST_HEIGHT, Outcome, ROOM, Spot, Symbol};
+use crate::sketches::are_lower;
+use es_grammar::{Context, Draft, GREATEST_HEIGHT, Outcome, ROOM, Spot, Symbol};
 use es_lexer::{LexFault, next};
 use es_text::{LexMode, NoMemory, Source, SourceType, Steps, Token, TokenKind};
 use std::alloc::Global;
@@ -91,25 +90,11 @@ fn end_at<L: Ledger>(reader: &mut Reader, at: u32, steps: &mut Steps<L>) -> Opti
     }
 }
 
-/// Whether the program around counts in the height.
-fn is_low_child(child: &Child) -> bool
-    ensures { result ≡ nat_lt (height_of child.now.shape) greatest_height }
-{
-    match &child.shape {
-        None => true,
-        Some(node) => node.height() < GREATEST_HEIGHT,
-    }
-}
-
+/// Whether the items are low enough. The program around them counts in the height.
 fn is_low(item: &Draft) -> bool
     ensures { result ≡ is_low item.now }
 {
-    for child in item.children.as_slice() {
-        if !is_low_child(child) {
-            return false;
-        }
-    }
-    true
+    are_lower(item.children.as_slice(), GREATEST_HEIGHT)
 }
 
 /// What there is at this offset.

@@ -12,6 +12,7 @@ mod expression_texts;
 mod fronts;
 #[cfg(test)]
 mod function_texts;
+mod heads;
 mod items;
 mod law;
 mod leaves;
@@ -27,6 +28,7 @@ mod reached;
 mod reader;
 mod reading;
 mod sets;
+mod sketches;
 #[cfg(test)]
 mod statement_texts;
 mod terminals;

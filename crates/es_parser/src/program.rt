@@ -4,6 +4,7 @@ ghost use Rattle.std.specs.Str.{IsCharBoundary, chars};
 ghost use Rattle.es_tree.specs.declared.shape.Shape.{out-Shape};
 ghost use Rattle.es_tree.specs.Shapes.{height};
 ghost use Rattle.es_text.specs.Texts.{text_bytes};
+ghost use Rattle.es_grammar.specs.Drafts.{joined};
 ghost use Rattle.es_grammar.specs.Parts.{greatest_height};
 ghost use Rattle.es_grammar.specs.Trees.{ReadsProgram, Whole, is_low, program_of, source_words};
 ghost use Rattle.es_parser.specs.Programs.{IsFinished, answer_of, are_low};
@@ -100,6 +101,16 @@ fn start(source: &Source) -> u32
     0
 }
 
+/// The items that were read, and one more.
+fn with_item(items: Draft, item: Draft) -> Result<Draft, NoMemory>
+    requires items { is_low items ≡ true }
+    requires item { is_low item ≡ true }
+    ensures joined { IfOk result (λ all. all ≡ joined items item) }
+    ensures low { IfOk result (λ all. is_low all ≡ true) }
+{
+    join(items, item)
+}
+
 /// The program that the text is.
 pub fn program<L: Ledger>(
     alloc: Global,
@@ -123,7 +134,7 @@ pub fn program<L: Ledger>(
             Item::Unread => return Ok(Answer::Unread(first_offset(source, at, steps))),
             Item::TooDeep => return Ok(Answer::TooDeep(first_offset(source, at, steps))),
             Item::Read(item, end) => {
-                draft = join(draft, item)?;
+                draft = with_item(draft, item)?;
                 at = end;
             }
         }

@@ -1,19 +1,22 @@
 //! A text that is being read, with what is known of it: tokens, the terminals that read them, and what was
 //! found not to be there.
-ghost use Rattle.std.specs.Prelude.{◌≡◌, Some, None, All, IfOk, IfSome, IsNone, slice_range};
+ghost use Rattle.std.specs.Prelude.{◌≡◌, ℕ, List, Some, None, All, IfOk, IfSome, IsNone, slice_range};
 ghost use Rattle.std.specs.Bool.{OnTrue};
 ghost use Rattle.std.specs.Str.{IsCharBoundary};
 ghost use Rattle.es_text.specs.Texts.{text_bytes};
 ghost use Rattle.es_text.specs.Skipped.{hold_line};
 ghost use Rattle.es_text.specs.Tokens.{skipped_at, token};
-ghost use Rattle.es_grammar.specs.declared.draft.Outcome.TheVariants.{Not};
+ghost use Rattle.es_grammar.specs.declared.draft.Outcome.TheVariants.{Not, Read};
 ghost use Rattle.es_grammar.specs.Reading.{Reads};
+ghost use Rattle.es_parser.specs.Ends.{EndsFrom};
+ghost use Rattle.es_parser.specs.Kept.{IsKeptOutcome, IsOutcome};
 
-use es_grammar::{Context, Spot, Symbol};
+use es_grammar::{Context, Draft, Spot, Symbol};
 use es_lexer::{has_line, next};
 use es_text::{LexMode, NoMemory, Source, Steps, Token};
 use std::alloc::Global;
 use std::marker::Model;
+use std::mem;
 use std::sync::ledger::Ledger;
 
 /// A token that was read from the offset `at` on, where `/` and `}` are punctuators.
@@ -39,10 +42,21 @@ pub struct Refusal {
     pub spot: Spot,
 }
 
-/// How many sets of terminals, and how many refusals, are kept at most: powers of 2.
+/// What a symbol reads at a spot, and the offset behind it.
+#[derive(Drop)]
+pub struct KeptOutcome {
+    pub symbol: Symbol,
+    pub spot: Spot,
+    pub draft: Draft,
+    pub end: u32,
+}
+
+/// How many sets of terminals, refusals and outcomes are kept at most: powers of 2.
 const SETS: usize = 1024;
 
 const REFUSALS: usize = 16_384;
+
+const OUTCOMES: usize = 512;
 
 /// A text that is being read. Contracts see its bytes.
 ///
@@ -56,6 +70,7 @@ pub struct Reader<'a> {
     /// Of the sets with one place the last one is kept; of the refusals too.
     terminals: Vec<Option<KeptTerminals>>,
     refusals: Vec<Option<Refusal>>,
+    outcomes: Vec<Option<KeptOutcome>>,
 }
 
 impl<'a> Model for Reader<'a> {
@@ -64,13 +79,14 @@ impl<'a> Model for Reader<'a> {
 
     ghost Value = { List ℕ };
 
-    ghost use Rattle.es_parser.specs.Kept.{IsKept, IsKeptSet, IsRefused};
+    ghost use Rattle.es_parser.specs.Kept.{IsKept, IsKeptOutcome, IsKeptSet, IsRefused};
 
     ghost view = { λ reader. text_bytes reader.source.now };
 
     ghost invariant = { λ reader. All (IsKept (text_bytes reader.source.now)) reader.tokens.items
         × All (IsKeptSet (text_bytes reader.source.now)) reader.terminals.items
-        × All (IsRefused (text_bytes reader.source.now)) reader.refusals.items };
+        × All (IsRefused (text_bytes reader.source.now)) reader.refusals.items
+        × All (IsKeptOutcome (text_bytes reader.source.now)) reader.outcomes.items };
 }
 
 fn is_same(one: Spot, other: Spot) -> bool
@@ -103,6 +119,39 @@ fn table<T: Copy + Drop>(alloc: Global, count: usize) -> Result<Vec<Option<T>>, 
     Ok(vec![in alloc; None; count]?)
 }
 
+/// The table of outcomes, in which nothing is kept yet.
+fn no_outcomes(alloc: Global) -> Result<Vec<Option<KeptOutcome>>, NoMemory>
+    ensures { IfOk result (λ table. All (λ kept. IsNone kept) table.items) }
+{
+    let mut table = Vec::with_capacity(alloc, OUTCOMES)?;
+    for _ in 0..OUTCOMES {
+        table.push(None)?;
+    }
+    Ok(table)
+}
+
+/// Takes what is kept in this place of the table.
+fn taken(table: &mut Vec<Option<KeptOutcome>>, place: usize) -> Option<KeptOutcome>
+    ensures kept { (text : List ℕ) → All (IsKeptOutcome text) table.old.items →
+        IfSome result (λ kept. IsOutcome text kept) }
+    ensures rest { (text : List ℕ) → All (IsKeptOutcome text) table.old.items →
+        All (IsKeptOutcome text) table.new.items }
+{
+    if place >= table.len() {
+        return None;
+    }
+    mem::replace(&mut table[place], None)
+}
+
+/// Whether what the symbol reads may be kept: it may be long, and is read at the same spot by what is tried
+/// in turn.
+fn is_shared(symbol: Symbol) -> bool {
+    match symbol {
+        Symbol::AssignmentExpression | Symbol::LeftHandSideExpression => true,
+        _ => false,
+    }
+}
+
 impl<'a> Reader<'a> {
     ghost use Rattle.es_parser.specs.Kept.{HasTerminals, IsKept, IsWithin};
 
@@ -113,12 +162,14 @@ impl<'a> Reader<'a> {
         let places = vec![in alloc; u32::MAX; source.text().len() + 1]?;
         let terminals = table(alloc, SETS)?;
         let refusals = table(alloc, REFUSALS)?;
+        let outcomes = no_outcomes(alloc)?;
         Ok(Reader {
             source,
             places,
             tokens: Vec::new(alloc),
             terminals,
             refusals,
+            outcomes,
         })
     }
 
@@ -270,6 +321,62 @@ impl<'a> Reader<'a> {
         let place = place_of(refusal_key(symbol, spot), self.refusals.len());
         if is_kept(symbol) && place < self.refusals.len() {
             self.refusals[place] = Some(Refusal { symbol, spot });
+        }
+    }
+
+    /// Whether this place of the table has what the symbol reads at the spot.
+    fn has_outcome(&self, place: usize, symbol: Symbol, spot: Spot) -> bool {
+        match self.outcomes.get(place) {
+            Some(Some(kept)) => kept.symbol == symbol && is_same(kept.spot, spot),
+            _ => false,
+        }
+    }
+
+    /// What the symbol reads there, if it is kept. It is kept no longer.
+    pub fn take(&mut self, symbol: Symbol, spot: Spot) -> Option<KeptOutcome>
+        ensures same { self.new ≡ self.old }
+        ensures reads { IfSome result (λ kept.
+            Reads self.old symbol spot (Read kept.draft kept.end)) }
+        ensures ends { IfSome result (λ kept.
+            EndsFrom self.old spot.at (Read kept.draft kept.end)) }
+    {
+        if !is_shared(symbol) {
+            return None;
+        }
+        let place = place_of(refusal_key(symbol, spot), self.outcomes.len());
+        if !self.has_outcome(place, symbol, spot) {
+            return None;
+        }
+        let kept = self.take_at(place, spot)?;
+        if kept.symbol == symbol {
+            Some(kept)
+        } else {
+            None
+        }
+    }
+
+    /// What is kept in this place, if that is of the spot.
+    fn take_at(&mut self, place: usize, spot: Spot) -> Option<KeptOutcome>
+        ensures same { self.new ≡ self.old }
+        ensures outcome { IfSome result (λ kept. IsOutcome self.old kept) }
+        ensures spot { IfSome result (λ kept. kept.spot ≡ spot) }
+    {
+        let found = taken(&mut self.outcomes, place)?;
+        if is_same(found.spot, spot) {
+            Some(found)
+        } else {
+            None
+        }
+    }
+
+    /// Keeps what the symbol reads there, where that may save time.
+    pub fn keep(&mut self, kept: KeptOutcome)
+        requires { IsOutcome self.old kept }
+        ensures { self.new ≡ self.old }
+    {
+        let place = place_of(refusal_key(kept.symbol, kept.spot), self.outcomes.len());
+        if is_shared(kept.symbol) && place < self.outcomes.len() {
+            self.outcomes[place] = Some(kept);
         }
     }
 

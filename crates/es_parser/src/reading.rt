@@ -1,11 +1,10 @@
 //! What a symbol reads: one interpreter of all rules.
-ghost use Rattle.std.specs.Prelude.{◌≡◌, ◌<◌, map, IfOk, IfSome, IsTrue, None};
+ghost use Rattle.std.specs.Prelude.{◌≡◌, ◌<◌, ◌-◌, map, IfOk, IfSome, IsTrue, None, true};
 ghost use Rattle.std.specs.Bool.{OnTrue};
 ghost use Rattle.std.specs.List.{list_all};
 ghost use Rattle.std.specs.Str.{IsCharBoundary};
 ghost use Rattle.es_grammar.specs.declared.draft.Draft.{Draft as DraftOf};
-ghost use Rattle.es_grammar.specs.declared.draft.Outcome.TheVariants.{Not};
-ghost use Rattle.es_grammar.specs.Contexts.{changed};
+ghost use Rattle.es_grammar.specs.Drafts.{empty};
 ghost use Rattle.es_grammar.specs.Firsts.{turn_rows};
 ghost use Rattle.es_grammar.specs.Grammar.{rule_of};
 ghost use Rattle.es_grammar.specs.Parts.{finish, is_last_turn};
@@ -13,51 +12,30 @@ ghost use Rattle.es_grammar.specs.Ranks.{is_below, rank_of, rows_below};
 ghost use Rattle.es_grammar.specs.Rules.{row, turns};
 ghost use Rattle.es_grammar.specs.Reading.{Reads, ReadsChoice, ReadsCommas};
 ghost use Rattle.es_grammar.specs.Reading.{ReadsPart, ReadsParts, ReadsTurns};
-ghost use Rattle.es_parser.specs.declared.reached.Reached.TheVariants.{Nothing};
 ghost use Rattle.es_parser.specs.Ends.{EndsFrom, EndsIn};
+ghost use Rattle.es_parser.specs.Sketches.{IsFaint, ReachesFrom, Sketched, all_lower};
 ghost use Rattle.es_parser.specs.Turns.{IsOver, ReadsBehind, ReadsInto, head_of, outcome_of};
 
 use crate::beginnings::{can_begin, can_begin_among};
 use crate::conditions::all_hold;
 use crate::drafts::{add_token, is_bare, nothing};
 use crate::fronts::{are_missing, is_missing};
+use crate::heads::{changed, head_of};
 use crate::reached::{Found, Reached, clear, extended, finished, grown, outcome_of, read_plain};
 use crate::reader::Reader;
 use crate::sets::terminals_at;
+use crate::sketches::{
+    Gap, Sketch, is_sketched, is_tried, kept_sketch, known, lower, note, refuse_if, sketch_plain,
+    untold, within,
+};
 use crate::terminals::comma_at;
 use es_grammar::{
-    Alternative, Change, Context, Draft, Field, Outcome, Part, Product, Rule, Spot, Symbol, Turns,
+    Alternative, Draft, Field, GREATEST_HEIGHT, Outcome, Part, Product, Rule, Spot, Symbol, Turns,
     rule_at,
 };
 use es_text::{NoMemory, Steps};
 use std::alloc::Global;
 use std::sync::ledger::Ledger;
-
-/// The context in which a symbol is read that a rule names.
-fn changed(change: Change, context: Context) -> Context
-    ensures { result ≡ changed change context }
-{
-    let (is_async, is_generator) = match change {
-        Change::Same => return context,
-        Change::Brackets => return Context {
-            in_operator: true,
-            ..context
-        },
-        Change::WithoutIn => return Context {
-            in_operator: false,
-            ..context
-        },
-        Change::Plain => (false, false),
-        Change::Async => (true, false),
-        Change::Generator => (false, true),
-        Change::AsyncGenerator => (true, true),
-    };
-    Context {
-        await_operator: is_async,
-        yield_operator: is_generator,
-        ..context
-    }
-}
 
 /// One part of a row, behind what was read before it.
 #[cycle(reading)]
@@ -371,9 +349,12 @@ fn read_into<L: Ledger>(
 {
     match head_of(symbol) {
         None => {
-            // Refusals are kept of symbols without a head alone.
-            if reader.is_refused(symbol, spot) {
-                return Ok(Reached::Nothing);
+            // Symbols without a head alone are kept and tried.
+            if let Some(reached) = known(reader, symbol, spot, draft) {
+                return Ok(reached);
+            }
+            if let Some(stopped) = tried(alloc, reader, symbol, spot, steps)? {
+                return Ok(stopped);
             }
             let reached = read_headless(alloc, reader, symbol, spot, draft, steps)?;
             refuse_if(reader, symbol, spot, reached);
@@ -386,48 +367,309 @@ fn read_into<L: Ledger>(
     }
 }
 
-/// Keeps that the symbol reads nothing there, if that came out.
+/// Whether the symbol is known not to be there, or to be nested too deeply, once it was sketched.
+#[cycle(reading)]
 #[inline(never)]
-fn refuse_if(reader: &mut Reader, symbol: Symbol, spot: Spot, reached: Reached)
-    requires { reached ≡ Nothing → Reads reader.old symbol spot Not }
-    ensures { reader.new ≡ reader.old }
+fn tried<L: Ledger>(
+    alloc: Global,
+    reader: &mut Reader,
+    symbol: Symbol,
+    spot: Spot,
+    steps: &mut Steps<L>,
+) -> Result<Option<Reached>, NoMemory>
+    requires { IsCharBoundary reader.old spot.at }
+    ensures same { reader.new ≡ reader.old }
+    ensures stops { IfOk result (λ o. IfSome o (λ r. (draft : DraftOf) →
+        Reads reader.old symbol spot (outcome_of r draft))) }
+    ensures ends { IfOk result (λ o. IfSome o (λ r. (draft : DraftOf) →
+        EndsFrom reader.old spot.at (outcome_of r draft))) }
 {
-    if let Reached::Nothing = reached {
-        reader.refuse(symbol, spot);
+    if !is_tried(symbol) {
+        return Ok(None);
+    }
+    match sketch(alloc, reader, symbol, spot, GREATEST_HEIGHT, steps) {
+        Ok(Reached::At(_)) | Err(Gap::Unclear) => Ok(None),
+        Ok(stopped) => Ok(Some(stopped)),
+        Err(Gap::NoMemory) => Err(NoMemory),
     }
 }
 
-/// The symbol that stands behind the symbol among these.
-macro_rules! heads {
-    ($symbol:ident; $($behind:ident $head:ident),*) => {
-        match $symbol {
-            $(Symbol::$behind => Some(Symbol::$head),)*
-            _ => None,
-        }
-    };
+/// How far the symbol reads, where the nodes that it gives are lower than the limit.
+#[cycle(reading)]
+#[inline(never)]
+fn sketch<L: Ledger>(
+    alloc: Global,
+    reader: &mut Reader,
+    symbol: Symbol,
+    spot: Spot,
+    limit: u32,
+    steps: &mut Steps<L>,
+) -> Result<Reached, Gap>
+    requires { IsCharBoundary reader.old spot.at }
+    ensures same { reader.new ≡ reader.old }
+    ensures reads { IfOk result (λ r. Sketched limit None (Reads reader.old symbol spot) r) }
+    ensures ends { IfOk result (λ r. ReachesFrom reader.old spot.at r) }
+{
+    if reader.is_refused(symbol, spot) {
+        return Ok(Reached::Nothing);
+    }
+    let reached = sketch_anew(alloc, reader, symbol, spot, limit, steps)?;
+    note(reader, symbol, spot, reached, steps);
+    Ok(reached)
 }
 
-/// The symbol at the head of the symbol's rule, with turns behind it.
-#[inline(never)]
-#[tactic(auto, unfolding(es_grammar::specs::Grammar::rule_of, es_grammar::specs::Expressions::expression_rule, es_grammar::specs::Statements::statement_rule, es_grammar::specs::Functions::function_rule, es_grammar::specs::Modules::module_rule, es_grammar::specs::Ranks::rank_of))]
-fn head_of(symbol: Symbol) -> Option<Symbol>
-    ensures head { result ≡ head_of (rule_of symbol) }
-    ensures below { IfSome result (λ head. rank_of head < rank_of symbol) }
-    ensures low { rank_of symbol < 64 }
+/// The same without a look at what is known.
+#[cycle(reading)]
+fn sketch_anew<L: Ledger>(
+    alloc: Global,
+    reader: &mut Reader,
+    symbol: Symbol,
+    spot: Spot,
+    limit: u32,
+    steps: &mut Steps<L>,
+) -> Result<Reached, Gap>
+    requires { IsCharBoundary reader.old spot.at }
+    ensures same { reader.new ≡ reader.old }
+    ensures reads { IfOk result (λ r. Sketched limit None (Reads reader.old symbol spot) r) }
+    ensures ends { IfOk result (λ r. ReachesFrom reader.old spot.at r) }
 {
-    heads![symbol;
-        CallChain CallChainStart, NewCallee NewCalleeStart, UpdateExpression LeftHandSideExpression,
-        ExponentiationExpression UnaryExpression, MultiplicativeExpression ExponentiationExpression,
-        AdditiveExpression MultiplicativeExpression, ShiftExpression AdditiveExpression,
-        RelationalExpression RelationalOperand, EqualityExpression RelationalExpression,
-        BitwiseANDExpression EqualityExpression, BitwiseXORExpression BitwiseANDExpression,
-        BitwiseORExpression BitwiseXORExpression, LogicalANDExpression BitwiseORExpression,
-        LogicalORExpression LogicalANDExpression, ShortCircuitExpression LogicalORExpression,
-        ConditionalExpression ShortCircuitExpression, SimpleAssignment ConditionalExpression,
-        AssignmentElement AssignmentTarget, Expression AssignmentExpression,
-        DeclaratorList Declarator, BindingElement BindingTarget,
-        SingleNameBinding BindingIdentifier
-    ]
+    match rule_at(symbol) {
+        Rule::Choice(rows) => sketch_rows(alloc, reader, symbol, rows, spot, limit, steps),
+        Rule::Commas(rows) => sketch_list(alloc, reader, symbol, rows, spot, limit, steps),
+        Rule::Behind(head, more) => {
+            let low = lower(limit)?;
+            match sketch(alloc, reader, head, spot, low, steps)? {
+                Reached::At(end) => {
+                    let behind = Spot { at: end, ..spot };
+                    sketch_option(alloc, reader, symbol, more, behind, limit, steps)
+                }
+                stopped => Ok(stopped),
+            }
+        }
+        Rule::More(_) => Err(Gap::Unclear),
+    }
+}
+
+/// A sketch of the first row that isn't Not.
+#[cycle(reading)]
+fn sketch_rows<L: Ledger>(
+    alloc: Global,
+    reader: &mut Reader,
+    symbol: Symbol,
+    rows: &[Alternative],
+    spot: Spot,
+    limit: u32,
+    steps: &mut Steps<L>,
+) -> Result<Reached, Gap>
+    requires low { rank_of symbol < 64 }
+    requires ranked { IsTrue (rows_below (rank_of symbol) (map row rows.now)) }
+    requires boundary { IsCharBoundary reader.old spot.at }
+    ensures same { reader.new ≡ reader.old }
+    ensures reads { IfOk result (λ r. (seed : DraftOf) → all_lower (limit - 1) seed.children ≡ true →
+        Sketched limit None (ReadsChoice reader.old (map row rows.now) spot seed) r) }
+    ensures ends { IfOk result (λ r. ReachesFrom reader.old spot.at r) }
+{
+    let set = terminals_at(reader, spot, steps);
+    for each in rows {
+        if is_missing(reader, set, each.parts, spot) {
+            continue;
+        }
+        let inner = within(each.makes, limit)?;
+        match sketch_parts(alloc, reader, symbol, each.parts, spot, inner, steps)? {
+            Reached::Nothing => {}
+            reached => return Ok(reached),
+        }
+    }
+    Ok(Reached::Nothing)
+}
+
+/// A sketch of the parts of a row.
+#[cycle(reading)]
+fn sketch_parts<L: Ledger>(
+    alloc: Global,
+    reader: &mut Reader,
+    symbol: Symbol,
+    parts: &[Part],
+    spot: Spot,
+    limit: u32,
+    steps: &mut Steps<L>,
+) -> Result<Reached, Gap>
+    requires low { rank_of symbol < 64 }
+    requires ranked { IsTrue (list_all (is_below (rank_of symbol)) parts.now) }
+    requires boundary { IsCharBoundary reader.old spot.at }
+    ensures same { reader.new ≡ reader.old }
+    ensures reads { IfOk result (λ r.
+        Sketched limit None (ReadsParts reader.old parts.now spot empty) r) }
+    ensures ends { IfOk result (λ r. ReachesFrom reader.old spot.at r) }
+{
+    let mut at = spot.at;
+    let mut target = None;
+    for each in parts {
+        let here = Spot { at, ..spot };
+        let sketch = sketch_part(alloc, reader, symbol, *each, here, target, limit, steps)?;
+        match sketch.reached {
+            Reached::At(end) => at = end,
+            stopped => return Ok(stopped),
+        }
+        target = sketch.target;
+    }
+    Ok(Reached::At(at))
+}
+
+/// A sketch of a part, behind others of whose last node it is told whether that is a plain target.
+#[cycle(reading)]
+fn sketch_part<L: Ledger>(
+    alloc: Global,
+    reader: &mut Reader,
+    symbol: Symbol,
+    part: Part,
+    spot: Spot,
+    target: Option<bool>,
+    limit: u32,
+    steps: &mut Steps<L>,
+) -> Result<Sketch, Gap>
+    requires low { rank_of symbol < 64 }
+    requires ranked { IsTrue (is_below (rank_of symbol) part) }
+    requires boundary { IsCharBoundary reader.old spot.at }
+    ensures same { reader.new ≡ reader.old }
+    ensures reads { IfOk result (λ s. (before : DraftOf) → IsFaint limit target before →
+        Sketched limit s.target (ReadsPart reader.old part spot before) s.reached) }
+    ensures ends { IfOk result (λ s. ReachesFrom reader.old spot.at s.reached) }
+{
+    match part {
+        Part::Symbol(inner, change, _) => {
+            let inside = Spot {
+                context: changed(change, spot.context),
+                ..spot
+            };
+            sketch_inner(alloc, reader, symbol, inner, inside, limit, steps)
+        }
+        Part::Deeper(inner, change, _) => {
+            if spot.room == 0 {
+                return Ok(untold(Reached::TooDeep));
+            }
+            let inside = Spot {
+                at: spot.at,
+                context: changed(change, spot.context),
+                room: spot.room - 1,
+            };
+            sketch_inner(alloc, reader, symbol, inner, inside, limit, steps)
+        }
+        other => {
+            let reached = sketch_plain(alloc, reader, spot, other, target, limit, steps)?;
+            Ok(untold(reached))
+        }
+    }
+}
+
+/// A sketch of a symbol inside of another: one that can't be sketched is read, and what it reads is kept.
+/// But what comes so far as a symbol that is tried has it that can't be sketched is best read at once.
+#[cycle(reading)]
+#[inline(never)]
+fn sketch_inner<L: Ledger>(
+    alloc: Global,
+    reader: &mut Reader,
+    outer: Symbol,
+    symbol: Symbol,
+    spot: Spot,
+    limit: u32,
+    steps: &mut Steps<L>,
+) -> Result<Sketch, Gap>
+    requires { IsCharBoundary reader.old spot.at }
+    ensures same { reader.new ≡ reader.old }
+    ensures reads { IfOk result (λ s.
+        Sketched limit s.target (Reads reader.old symbol spot) s.reached) }
+    ensures ends { IfOk result (λ s. ReachesFrom reader.old spot.at s.reached) }
+{
+    if is_sketched(symbol) {
+        let reached = sketch(alloc, reader, symbol, spot, limit, steps)?;
+        return Ok(untold(reached));
+    }
+    if is_tried(outer) {
+        return Err(Gap::Unclear);
+    }
+    let mut draft = nothing(alloc);
+    let reached = read_into(alloc, reader, symbol, spot, &mut draft, steps)?;
+    kept_sketch(reader, symbol, spot, reached, draft, limit)
+}
+
+/// A sketch of an option without conditions.
+#[cycle(reading)]
+#[inline(never)]
+fn sketch_option<L: Ledger>(
+    alloc: Global,
+    reader: &mut Reader,
+    symbol: Symbol,
+    more: Turns,
+    spot: Spot,
+    limit: u32,
+    steps: &mut Steps<L>,
+) -> Result<Reached, Gap>
+    requires low { rank_of symbol < 64 }
+    requires ranked { IsTrue (rows_below (rank_of symbol) (map row more.rows.now)) }
+    requires rows { turn_rows (rule_of symbol) ≡ map row more.rows.now }
+    requires boundary { IsCharBoundary reader.old spot.at }
+    ensures same { reader.new ≡ reader.old }
+    ensures reads { IfOk result (λ r. (before : DraftOf) → all_lower (limit - 1) before.children ≡ true →
+        Sketched limit None (ReadsTurns reader.old (turns true more) spot before) r) }
+    ensures ends { IfOk result (λ r. ReachesFrom reader.old spot.at r) }
+{
+    if more.many || more.conditions.len() > 0 {
+        return Err(Gap::Unclear);
+    }
+    if is_over(reader, symbol, more.rows, spot, steps) {
+        return Ok(Reached::At(spot.at));
+    }
+    match sketch_rows(alloc, reader, symbol, more.rows, spot, limit, steps)? {
+        Reached::Nothing => {
+            if can_begin(reader, symbol, spot, steps) {
+                Ok(Reached::Nothing)
+            } else {
+                Ok(Reached::At(spot.at))
+            }
+        }
+        reached => Ok(reached),
+    }
+}
+
+/// A sketch of any number of the rows, separated by commas.
+#[cycle(reading)]
+#[inline(never)]
+fn sketch_list<L: Ledger>(
+    alloc: Global,
+    reader: &mut Reader,
+    symbol: Symbol,
+    rows: &[Alternative],
+    spot: Spot,
+    limit: u32,
+    steps: &mut Steps<L>,
+) -> Result<Reached, Gap>
+    requires low { rank_of symbol < 64 }
+    requires ranked { IsTrue (rows_below (rank_of symbol) (map row rows.now)) }
+    requires rows { turn_rows (rule_of symbol) ≡ map row rows.now }
+    requires boundary { IsCharBoundary reader.old spot.at }
+    ensures same { reader.new ≡ reader.old }
+    ensures reads { IfOk result (λ r.
+        Sketched limit None (ReadsCommas reader.old (map row rows.now) spot empty) r) }
+    ensures ends { IfOk result (λ r. ReachesFrom reader.old spot.at r) }
+{
+    let mut at = spot.at;
+    loop {
+        let here = Spot { at, ..spot };
+        match sketch_rows(alloc, reader, symbol, rows, here, limit, steps)? {
+            Reached::Nothing => {
+                if can_begin(reader, symbol, here, steps) {
+                    return Ok(Reached::Nothing);
+                }
+                return Ok(Reached::At(at));
+            }
+            Reached::TooDeep => return Ok(Reached::TooDeep),
+            Reached::At(end) => match comma_at(reader, Spot { at: end, ..spot }, steps) {
+                None => return Ok(Reached::At(end)),
+                Some(comma) => at = comma.span.end,
+            },
+        }
+    }
 }
 
 /// What the symbol reads whose rule has a head, where that was read so far.

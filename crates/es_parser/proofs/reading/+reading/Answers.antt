@@ -12,6 +12,17 @@ use Rattle.es_grammar.specs.Reading.{Reads, ReadsCommas, ReadsParts, comma_at}
 use Rattle.es_parser.specs.Ends.{EndsFrom}
 use Rattle.es_parser.specs.Turns.{IsOver, outcome_of}
 use Rattle.es_parser.proofs.ReadingLemmas.{after_bare, if_ok, at_ok, at_ends, behind_none, behind_stopped, behind_turns, by_list, by_more, by_rows, can_in, deeper_read, ends_later, extended_ends, finished_ends, grown_ends, is_not_unless, list_broken, list_last, list_next, list_over, list_stop, moves_on, no_room, parts_done, parts_step, parts_stop, refused, rows_below_at, rows_first, rows_next, rows_none, stops_unless_at, symbol_below, symbol_read, turns_last, turns_left, turns_next, turns_over, turns_over_at_once, turns_stop, turns_stuck}
+use Rattle.std.specs.Prelude.{All, IfSome}
+use Rattle.std.proofs.Common.{◌++◌, ◌-◌}
+use Rattle.es_grammar.specs.declared.draft.Draft.{Draft}
+use Rattle.es_grammar.specs.declared.draft.Outcome.TheVariants.{Not, Deep, Read}
+use Rattle.es_grammar.specs.Drafts.{joined}
+use Rattle.es_grammar.specs.Parts.{with_token}
+use Rattle.es_grammar.specs.Reading.{ReadsChoice, ReadsPart, broken, deep_item, last_item, next_item, no_more}
+use Rattle.es_parser.specs.declared.reached.Reached.TheVariants.{Nothing, TooDeep, At}
+use Rattle.es_parser.specs.Sketches.{IsFaint, ReachesFrom, Sketched, all_lower}
+use Rattle.es_parser.proofs.HeightLemmas.{lower_joined}
+use Rattle.es_parser.proofs.SketchesLemmas.{behind_sketched, choice_sketched, deeper_sketched, faint_empty, faint_low, head_stops, inner_sketched, list_sketched, nothing_of, option_ends, option_over, option_reads, option_stuck, row_sketched, stop_ends, told_nothing, with_none}
 use Rattle.es_parser.proofs.reading.+reading.Goals as goal
 
 no_alternative : Alternative
@@ -384,3 +395,277 @@ choice-parts-requires g t c κs within = (
 pub part-inner_symbol-requires : goal.part-inner_symbol-requires
 part-inner_symbol-requires g t c κs within =
     (omega (arith, symbol_below (rank_of c.args.symbol) c.in-Symbol.is c.requires.ranked, c.requires.low), (search rules, c.requires.boundary))
+
+-- sketches of rows
+pub sketch_rows-loop-each-init : goal.sketch_rows-loop-each-init
+sketch_rows-loop-each-init g t c = record { same = c.terminals_at-set.ensures.same; reads = λ seed o h. h }
+
+pub sketch_rows-loop-each-preserved-then-is_missing : goal.sketch_rows-loop-each-preserved-then-is_missing
+unfolding no_alternative
+sketch_rows-loop-each-preserved-then-is_missing g t c =
+    let same = c.loop-each.invariant.same in
+    record {
+      same = same;
+      reads = λ seed o h. c.loop-each.invariant.reads seed o
+          (rows_next same refl no_alternative c.args.rows.now c.loop-each.each-index c.loop-each-test.true (c.if-is_missing.ensures empty) refl h);
+    }
+
+pub sketch_rows-loop-each-preserved : goal.sketch_rows-loop-each-preserved
+unfolding no_alternative
+sketch_rows-loop-each-preserved g t c =
+    let same = c.loop-each.invariant.same in
+    let read : ReadsParts c.loop-each.reader (get_or c.args.rows.now c.loop-each.each-index no_alternative).parts.now c.args.spot empty Not =
+    nothing_of c.in_ok-reached.reached (ReadsParts c.loop-each.reader (get_or c.args.rows.now c.loop-each.each-index no_alternative).parts.now c.args.spot empty)
+    c.in_ok-reached.ensures.reads c.in-Nothing.is in
+    record {
+      same = c.in_ok-reached.ensures.same ∙ same;
+      reads = λ seed o h. c.loop-each.invariant.reads seed o
+          (rows_next same refl no_alternative c.args.rows.now c.loop-each.each-index c.loop-each-test.true read refl h);
+    }
+
+pub sketch_rows-returns-in_default : goal.sketch_rows-returns-in_default
+unfolding no_alternative
+sketch_rows-returns-in_default g t c =
+    let same = c.loop-each.invariant.same in
+    let sketch = c.in_ok-reached.ensures.reads in
+    let makes = (get_or c.args.rows.now c.loop-each.each-index no_alternative).makes in
+    record {
+      same = c.in_ok-reached.ensures.same ∙ same;
+      reads = λ seed low.
+          let made = row_sketched makes c.in_ok-inner.inner c.args.limit c.in_ok-inner.ensures c.in_ok-reached.reached sketch.0 seed low sketch.1.low in (
+            made.0,
+            made.1,
+            subst (λ o. ReadsChoice c.args.reader.now (map row c.args.rows.now) c.args.spot seed o) made.2
+                (c.loop-each.invariant.reads seed _ (rows_first same refl no_alternative c.args.rows.now c.loop-each.each-index c.loop-each-test.true sketch.2
+                (is_not_unless c.in_ok-reached.reached sketch.0 c.in_default.not-Nothing))),
+          );
+      ends = subst (λ text. ReachesFrom text c.args.spot.at c.in_ok-reached.reached) same c.in_ok-reached.ensures.ends;
+    }
+
+pub sketch_rows-returns-clause-same : goal.sketch_rows-returns-clause-same
+sketch_rows-returns-clause-same g t c = c.loop-each.invariant.same
+
+pub sketch_rows-returns-clause-reads : goal.sketch_rows-returns-clause-reads
+sketch_rows-returns-clause-reads g t c = λ seed low.
+    (empty, faint_empty c.args.limit, c.loop-each.invariant.reads seed _ (rows_none c.args.rows.now c.loop-each.each-index c.loop-each-test.false))
+
+pub sketch_rows-sketch_parts-requires : goal.sketch_rows-sketch_parts-requires
+unfolding no_alternative
+sketch_rows-sketch_parts-requires g t c κs within = (
+  omega arith,
+  (
+    search rules,
+    (
+      c.requires.low,
+      (
+        rows_below_at (rank_of c.args.symbol) no_alternative c.args.rows.now c.loop-each.each-index c.loop-each-test.true c.requires.ranked,
+        subst (λ text. IsCharBoundary text c.args.spot.at) (sym c.loop-each.invariant.same) c.requires.boundary,
+      ),
+    ),
+  ),
+)
+
+-- sketches of parts
+pub sketch_parts-loop-each-init : goal.sketch_parts-loop-each-init
+sketch_parts-loop-each-init g t c =
+    record { same = refl; order = omega arith; ends = c.requires.boundary; known = (empty, faint_empty c.args.limit, λ o h. h) }
+
+pub sketch_parts-loop-each-preserved : goal.sketch_parts-loop-each-preserved
+sketch_parts-loop-each-preserved g t c =
+    let same = c.loop-each.invariant.same in
+    let known = c.loop-each.invariant.known in
+    let sketch = c.in_ok-sketch.ensures.reads known.0 known.1 in
+    let ended = at_ends c.loop-each.at c.in_ok-sketch.sketch.reached empty same c.in-At.is c.in_ok-sketch.ensures.ends in
+    record {
+      same = c.in_ok-sketch.ensures.same ∙ same;
+      order = omega (arith, ended.0, c.loop-each.invariant.order);
+      ends = ended.1;
+      known = (
+        sketch.0,
+        sketch.1,
+        λ o h. known.2 o
+            (parts_step same c.args.spot _ c.args.parts.now c.loop-each.each-index c.loop-each-test.true sketch.2
+            (ap (λ q. outcome_of q sketch.0) c.in-At.is) h),
+      );
+    }
+
+pub sketch_parts-returns-in_default : goal.sketch_parts-returns-in_default
+sketch_parts-returns-in_default g t c =
+    let same = c.loop-each.invariant.same in
+    let known = c.loop-each.invariant.known in
+    let sketch = c.in_ok-sketch.ensures.reads known.0 known.1 in
+    record {
+      same = c.in_ok-sketch.ensures.same ∙ same;
+      reads = (
+        sketch.0,
+        faint_low c.args.limit sketch.0 sketch.1.low,
+        known.2 _
+            (parts_stop same c.args.spot _ c.args.parts.now c.loop-each.each-index c.loop-each-test.true sketch.2
+            (stops_unless_at c.in_ok-sketch.sketch.reached sketch.0 c.in_default.not-At)),
+      );
+      ends = stop_ends c.args.reader.now c.args.spot.at c.in_ok-sketch.sketch.reached c.in_default.not-At;
+    }
+
+pub sketch_parts-returns-clause-reads : goal.sketch_parts-returns-clause-reads
+sketch_parts-returns-clause-reads g t c =
+    let known = c.loop-each.invariant.known in
+    (known.0, faint_low c.args.limit known.0 known.1.low, known.2 _ (parts_done c.args.spot c.args.parts.now c.loop-each.each-index c.loop-each-test.false))
+
+pub sketch_parts-returns-clause-ends : goal.sketch_parts-returns-clause-ends
+sketch_parts-returns-clause-ends g t c = (c.loop-each.invariant.order, c.loop-each.invariant.ends)
+
+-- a sketch of a part
+pub sketch_part-returns-in-Symbol-clause-reads : goal.sketch_part-returns-in-Symbol-clause-reads
+sketch_part-returns-in-Symbol-clause-reads g t c =
+    if_ok _ _ c.sketch_inner.result (λ s h. inner_sketched s.reached c.args.spot c.in-Symbol.is c.changed.ensures h c.args.target) c.sketch_inner.ensures.reads
+
+pub sketch_part-returns-then-spot-eq0-clause-reads : goal.sketch_part-returns-then-spot-eq0-clause-reads
+sketch_part-returns-then-spot-eq0-clause-reads g t c = λ before faint.
+    told_nothing c.untold.result TooDeep (ReadsPart c.args.reader.now c.args.part c.args.spot before) c.untold.ensures.reached c.untold.ensures.target
+    (empty, faint_empty c.args.limit, no_room c.args.spot c.in-Deeper.is c.if-spot-eq0.true)
+
+pub sketch_part-returns-else-spot-eq0-clause-reads : goal.sketch_part-returns-else-spot-eq0-clause-reads
+sketch_part-returns-else-spot-eq0-clause-reads g t c =
+    if_ok _ _ c.sketch_inner-in-Deeper.result (λ s h. deeper_sketched s.reached c.args.spot c.in-Deeper.is c.changed-in-Deeper.ensures (omega arith) h c.args.target)
+    c.sketch_inner-in-Deeper.ensures.reads
+
+-- sketches of options
+pub sketch_option-returns-then-is_over-clause-reads : goal.sketch_option-returns-then-is_over-clause-reads
+sketch_option-returns-then-is_over-clause-reads g t c = option_over c.args.spot c.args.more c.args.limit c.if-is_over.ensures.over
+
+pub sketch_option-returns-then-can_begin-clause-reads : goal.sketch_option-returns-then-can_begin-clause-reads
+sketch_option-returns-then-can_begin-clause-reads g t c = λ before low.
+    let sketch = c.in_ok-reached.ensures.reads before low in
+    let text = c.args.reader.now in
+    let same = c.is_over.ensures.same in
+    let none = subst (λ t. ReadsChoice t (map row c.args.more.rows.now) c.args.spot before Not) same
+    (nothing_of c.in_ok-reached.reached (ReadsChoice c.is_over.new.reader (map row c.args.more.rows.now) c.args.spot before) sketch c.in-Nothing.is) in
+    option_stuck c.args.spot c.args.more c.args.limit (omega arith) before none
+    (can_in (c.in_ok-reached.ensures.same ∙ same) c.requires.rows c.if-can_begin.ensures.some)
+
+pub sketch_option-returns-else-can_begin-clause-reads : goal.sketch_option-returns-else-can_begin-clause-reads
+sketch_option-returns-else-can_begin-clause-reads g t c = λ before low.
+    let sketch = c.in_ok-reached.ensures.reads before low in
+    let same = c.is_over.ensures.same in
+    let none = subst (λ t. ReadsChoice t (map row c.args.more.rows.now) c.args.spot before Not) same
+    (nothing_of c.in_ok-reached.reached (ReadsChoice c.is_over.new.reader (map row c.args.more.rows.now) c.args.spot before) sketch c.in-Nothing.is) in
+    option_ends c.args.spot c.args.more c.args.limit (omega arith) before low none
+    (λ can. c.if-can_begin.ensures.none (can_in (sym (c.in_ok-reached.ensures.same ∙ same)) (sym c.requires.rows) can))
+
+pub sketch_option-returns-in_default-clause-reads : goal.sketch_option-returns-in_default-clause-reads
+sketch_option-returns-in_default-clause-reads g t c = λ before low.
+    let sketch = subst (λ t. Sketched c.args.limit None (ReadsChoice t (map row c.args.more.rows.now) c.args.spot before) c.in_ok-reached.reached) c.is_over.ensures.same
+    (c.in_ok-reached.ensures.reads before low) in
+    option_reads c.args.spot c.args.more c.args.limit c.in_ok-reached.reached (omega arith) c.if-more.false c.in_default.not-Nothing before sketch
+
+-- sketches of lists
+pub sketch_list-loop-reader-init : goal.sketch_list-loop-reader-init
+sketch_list-loop-reader-init g t c =
+    record { same = refl; order = omega arith; ends = c.requires.boundary; known = (empty, refl, λ o h. h) }
+
+-- sketches of symbols
+pub sketch_anew-returns-in-Choice-clause-reads : goal.sketch_anew-returns-in-Choice-clause-reads
+sketch_anew-returns-in-Choice-clause-reads g t c =
+    if_ok _ _ c.sketch_rows.result (λ q h. choice_sketched q c.in-Choice.rows c.in-Choice.is c.rule_at.ensures.rule (h empty refl)) c.sketch_rows.ensures.reads
+
+pub sketch_anew-returns-in-Commas-clause-reads : goal.sketch_anew-returns-in-Commas-clause-reads
+sketch_anew-returns-in-Commas-clause-reads g t c =
+    if_ok _ _ c.sketch_list.result (λ q h. list_sketched q c.in-Commas.rows c.in-Commas.is c.rule_at.ensures.rule h) c.sketch_list.ensures.reads
+
+pub sketch_anew-returns-in-At-clause-reads : goal.sketch_anew-returns-in-At-clause-reads
+sketch_anew-returns-in-At-clause-reads g t c =
+    if_ok _ _ c.sketch_option.result
+    (λ q h. behind_sketched c.in_ok-stopped-in-Behind.stopped q c.in-Behind.more c.in_ok-stopped-in-Behind.ensures.same c.in-Behind.is c.rule_at.ensures.rule c.in_ok-low-in-Behind.ensures c.in-At.is c.in_ok-stopped-in-Behind.ensures.reads h)
+    c.sketch_option.ensures.reads
+
+pub sketch_anew-returns-in_default : goal.sketch_anew-returns-in_default
+sketch_anew-returns-in_default g t c = record {
+  same = c.in_ok-stopped-in-Behind.ensures.same;
+  reads = head_stops c.in_ok-stopped-in-Behind.stopped c.in-Behind.more c.in-Behind.is c.rule_at.ensures.rule c.in_default.not-At c.in_ok-stopped-in-Behind.ensures.reads;
+  ends = stop_ends c.args.reader.now c.args.spot.at c.in_ok-stopped-in-Behind.stopped c.in_default.not-At;
+}
+
+pub sketch-returns-then-is_refused-clause-reads : goal.sketch-returns-then-is_refused-clause-reads
+sketch-returns-then-is_refused-clause-reads g t c = (empty, faint_empty c.args.limit, c.if-is_refused.ensures)
+
+pub sketch_part-sketch_inner-requires : goal.sketch_part-sketch_inner-requires
+sketch_part-sketch_inner-requires g t c κs within =
+    (omega (arith, symbol_below (rank_of c.args.symbol) c.in-Symbol.is c.requires.ranked, c.requires.low), (search rules, c.requires.boundary))
+
+pub sketch_list-returns-then-can_begin-clause-reads : goal.sketch_list-returns-then-can_begin-clause-reads
+sketch_list-returns-then-can_begin-clause-reads g t c =
+    let same = c.loop-reader.invariant.same in
+    let known = c.loop-reader.invariant.known in
+    let here = moved c.args.spot c.loop-reader.at in
+    let rows = map row c.args.rows.now in
+    let none : ReadsChoice c.loop-reader.reader rows here empty Not =
+    nothing_of c.in_ok-sketch_rows.field-0 (ReadsChoice c.loop-reader.reader rows here empty) (c.in_ok-sketch_rows.ensures.reads empty refl) c.in-Nothing.is in (
+      empty,
+      faint_empty c.args.limit,
+      known.2 _ (broken (subst (λ t. ReadsChoice t rows here empty Not) same none)
+          (can_in (c.in_ok-sketch_rows.ensures.same ∙ same) c.requires.rows c.if-can_begin.ensures.some)),
+    )
+
+pub sketch_list-returns-in-Nothing-clause-reads : goal.sketch_list-returns-in-Nothing-clause-reads
+sketch_list-returns-in-Nothing-clause-reads g t c =
+    let same = c.loop-reader.invariant.same in
+    let known = c.loop-reader.invariant.known in
+    let here = moved c.args.spot c.loop-reader.at in
+    let rows = map row c.args.rows.now in
+    let none : ReadsChoice c.loop-reader.reader rows here empty Not =
+    nothing_of c.in_ok-sketch_rows.field-0 (ReadsChoice c.loop-reader.reader rows here empty) (c.in_ok-sketch_rows.ensures.reads empty refl) c.in-Nothing.is in (
+      known.0,
+      faint_low c.args.limit known.0 known.1,
+      known.2 _ (no_more (subst (λ t. ReadsChoice t rows here empty Not) same none)
+          (λ can. c.if-can_begin.ensures.none (can_in (sym (c.in_ok-sketch_rows.ensures.same ∙ same)) (sym c.requires.rows) can))),
+    )
+
+pub sketch_list-returns-in-TooDeep-clause-reads : goal.sketch_list-returns-in-TooDeep-clause-reads
+sketch_list-returns-in-TooDeep-clause-reads g t c =
+    let same = c.loop-reader.invariant.same in
+    let known = c.loop-reader.invariant.known in
+    let here = moved c.args.spot c.loop-reader.at in
+    let rows = map row c.args.rows.now in
+    let sketch = c.in_ok-sketch_rows.ensures.reads empty refl in
+    let deep : ReadsChoice c.loop-reader.reader rows here empty Deep =
+    subst (λ q. ReadsChoice c.loop-reader.reader rows here empty (outcome_of q sketch.0)) c.in-TooDeep.is sketch.2 in
+    (empty, faint_empty c.args.limit, known.2 _ (deep_item (subst (λ t. ReadsChoice t rows here empty Deep) same deep)))
+
+pub sketch_list-returns-in-None-clause-reads : goal.sketch_list-returns-in-None-clause-reads
+sketch_list-returns-in-None-clause-reads g t c =
+    let same = c.loop-reader.invariant.same in
+    let known = c.loop-reader.invariant.known in
+    let now = c.in_ok-sketch_rows.ensures.same ∙ same in
+    let here = moved c.args.spot c.loop-reader.at in
+    let rows = map row c.args.rows.now in
+    let sketch = c.in_ok-sketch_rows.ensures.reads empty refl in
+    let reads : ReadsChoice c.loop-reader.reader rows here empty (Read sketch.0 c.in-At.end) =
+    subst (λ q. ReadsChoice c.loop-reader.reader rows here empty (outcome_of q sketch.0)) c.in-At.is sketch.2 in (
+      joined known.0 sketch.0,
+      faint_low c.args.limit (joined known.0 sketch.0) (lower_joined c.args.limit known.0.children sketch.0.children known.1 sketch.1.low),
+      known.2 _ (last_item (subst (λ t. ReadsChoice t rows here empty (Read sketch.0 c.in-At.end)) same reads)
+          (subst (λ text. comma_at text (moved c.args.spot c.in-At.end) ≡ None) now (sym c.in-None.ensures.comma))),
+    )
+
+pub sketch_list-loop-reader-preserved : goal.sketch_list-loop-reader-preserved
+sketch_list-loop-reader-preserved g t c =
+    let same = c.loop-reader.invariant.same in
+    let known = c.loop-reader.invariant.known in
+    let now = c.in_ok-sketch_rows.ensures.same ∙ same in
+    let here = moved c.args.spot c.loop-reader.at in
+    let rows = map row c.args.rows.now in
+    let sketch = c.in_ok-sketch_rows.ensures.reads empty refl in
+    let reads : ReadsChoice c.loop-reader.reader rows here empty (Read sketch.0 c.in-At.end) =
+    subst (λ q. ReadsChoice c.loop-reader.reader rows here empty (outcome_of q sketch.0)) c.in-At.is sketch.2 in
+    let ended = at_ends c.loop-reader.at c.in_ok-sketch_rows.field-0 empty same c.in-At.is c.in_ok-sketch_rows.ensures.ends in
+    record {
+      same = c.in-Some.ensures.same ∙ now;
+      order = omega (arith, ended.0, c.loop-reader.invariant.order, c.in-Some.ensures.moves);
+      ends = subst (λ text. IsCharBoundary text c.in-Some.comma.span.end) now c.in-Some.ensures.ends;
+      known = (
+        with_token (joined known.0 sketch.0) c.in-Some.comma,
+        with_none c.args.limit (known.0.children ++ sketch.0.children) (lower_joined c.args.limit known.0.children sketch.0.children known.1 sketch.1.low),
+        λ o h. known.2 o (next_item (subst (λ t. ReadsChoice t rows here empty (Read sketch.0 c.in-At.end)) same reads)
+            (subst (λ text. comma_at text (moved c.args.spot c.in-At.end) ≡ Some c.in-Some.comma) now (sym c.in-Some.ensures.comma)) h),
+      );
+    }

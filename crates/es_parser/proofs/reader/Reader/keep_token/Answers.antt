@@ -16,4 +16,5 @@ invariant_of-self c =
       subst (λ (tokens : List KeptToken). All (IsKept text) tokens) (sym pushed) (All-push (IsKept text) before c.args.kept c.self.invariant.0 here),
       c.self.invariant.1,
       c.self.invariant.2,
+      c.self.invariant.3,
     )
