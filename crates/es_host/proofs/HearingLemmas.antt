@@ -2,7 +2,7 @@
 use Rattle.std.proofs.Common.{◌≡◌, ◌≢◌, ◌∙◌, ℕ, ◌+◌, ◌<◌, ◌≤◌, List, [], ◌∷◌, ◌++◌, slice_index_or, slice_set, length, map, take, ap, sym, subst, refl, append_assoc, append-nil, arith}
 use Rattle.std.specs.Prelude.{IsTrue, Some}
 use Rattle.es_tree.specs.Rows.{kind_of}
-use Rattle.es_config.specs.Settings.{Options}
+use Rattle.es_settings.specs.Settings.{Options}
 use Rattle.es_host.specs.declared.listeners.Listener.{Listener}
 use Rattle.std.proofs.lemmas.List.{length-map, take_all}
 use Rattle.es_host.proofs.LawfulLemmas.{told-one}

@@ -7,7 +7,6 @@ pub mod MeaningsLemmas
 pub mod NodesLemmas
 pub mod ReadTokensLemmas
 pub mod ReportsLemmas
-pub mod SortingLemmas
 pub mod SpansLemmas
 pub mod TokensLemmas
 pub mod WalkLemmas

@@ -3,12 +3,13 @@ use Rattle.std.proofs.Common.{◌≡◌, ◌∙◌, ℕ, ◌<◌, List, slice_in
 use Rattle.std.specs.Prelude.{option_map, slice_get, unwrap_or, Some}
 use Rattle.std.proofs.lemmas.List.{length-map}
 use Rattle.std.proofs.lemmas.Option.{slice_get-map, slice_get-get_or, slice_get_within}
-use Rattle.es_config.specs.declared.file_config.RuleSetting.{RuleSetting}
-use Rattle.es_config.specs.declared.verdict.Verdict.TheVariants.{Fine}
-use Rattle.es_config.specs.Settings.{Setting, options_of, setting_of}
+use Rattle.es_settings.specs.declared.file_config.RuleSetting.{RuleSetting}
+use Rattle.es_settings.specs.declared.verdict.Verdict.TheVariants.{Fine}
+use Rattle.es_settings.specs.Settings.{Setting, options_of, setting_of}
 use Rattle.es_host.specs.declared.file.FileView.{FileView}
 use Rattle.es_host.specs.Files.{file_in}
-use Rattle.es_host.specs.Meanings.{Fits, Meaning, interest_at, meaning_at, options_at, setting_at, silence, unset}
+use Rattle.es_settings.specs.Settings.{unset}
+use Rattle.es_host.specs.Meanings.{Fits, Meaning, interest_at, meaning_at, options_at, setting_at, silence}
 
 module _ {R : Type 0} (meaning : R → Meaning) where
   pub meaning-here : (rules : List R) (i : ℕ) (d : R) → i < length rules → meaning_at (map meaning rules) i ≡ meaning (slice_index_or rules i d)

@@ -1,7 +1,7 @@
 -- The reports of one more rule.
 use Rattle.std.proofs.Common.{◌≡◌, ◌∙◌, ℕ, ◌<◌, List, slice_index_or, length, map, ap, sym}
-use Rattle.es_config.specs.declared.file_config.RuleSetting.{RuleSetting}
-use Rattle.es_config.specs.Settings.{options_of}
+use Rattle.es_settings.specs.declared.file_config.RuleSetting.{RuleSetting}
+use Rattle.es_settings.specs.Settings.{options_of}
 use Rattle.es_host.specs.declared.file.FileView.{FileView}
 use Rattle.es_host.proofs.MeaningsLemmas.{here-set, meaning-here}
 use Rattle.es_host.specs.Files.{file_in}

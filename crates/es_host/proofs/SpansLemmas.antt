@@ -10,8 +10,8 @@ use Rattle.es_text.specs.declared.finding.Severity.{Severity}
 use Rattle.es_text.specs.declared.span.Span.{Span}
 use Rattle.es_text.specs.Spans.{is_part}
 use Rattle.es_tree.specs.Rows.{Row, span_of}
-use Rattle.es_host.proofs.SortingLemmas.{passes_in_order}
-use Rattle.es_host.specs.Sorting.{finding_cmp, ordered}
+use Rattle.es_settings.proofs.SortingLemmas.{passes_in_order}
+use Rattle.es_host.specs.Order.{finding_cmp, ordered}
 use Rattle.es_host.specs.Reports.{report_of}
 use Rattle.es_host.specs.Spans.{are_parts, fix_fits, finding_fits, findings_fit, reports_fit, fixes_fit}
 

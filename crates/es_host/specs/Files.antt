@@ -8,7 +8,7 @@ use Rattle.es_scopes.specs.Analysis.{Analysis, IsReferenceIn, IsVariableIn, stan
 use Rattle.es_scopes.specs.Places.{scopes}
 use Rattle.es_scopes.specs.Uses.{references}
 use Rattle.es_scopes.specs.Variables.{variables}
-use Rattle.es_config.specs.Settings.{Settings, settings_of}
+use Rattle.es_settings.specs.Settings.{Settings, settings_of}
 use Rattle.es_host.specs.declared.file.Ctx.{Ctx}
 use Rattle.es_host.specs.declared.file.FileView.{FileView}
 use Rattle.es_host.specs.Spans.{are_parts}

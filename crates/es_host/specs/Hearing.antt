@@ -1,6 +1,6 @@
 -- What the rules of a kit heard of a file.
 use Rattle.std.specs.Prelude.{ℕ, ◌<◌, List, length, slice_index_or, IsTrue}
-use Rattle.es_config.specs.Settings.{Options}
+use Rattle.es_settings.specs.Settings.{Options}
 use Rattle.es_host.specs.Files.{File, rows_in}
 use Rattle.es_host.specs.Lawful.{told}
 use Rattle.es_host.specs.Meanings.{Event, Meaning, interest_at, is_on, options_at, setting_at}

@@ -1,7 +1,7 @@
 -- What contracts see of a kit.
 use Rattle.std.specs.Prelude.{◌≡◌, ℕ, All, List, [], map, refl}
 use Rattle.std.specs.Coded.{Coded, code_by, coded×, coded_list, coded_ℕ}
-use Rattle.es_config.specs.declared.verdict.Verdict.TheVariants.{Fine}
+use Rattle.es_settings.specs.declared.verdict.Verdict.TheVariants.{Fine}
 use Rattle.es_host.specs.Meanings.{Meaning}
 
 -- its rules in their order, and how often they were made to listen

@@ -5,7 +5,7 @@ use Rattle.std.specs.Option.{option_map_or}
 use Rattle.es_tree.specs.Rows.{Row}
 use Rattle.es_selectors.specs.declared.selector.Spelling.{Spelling}
 use Rattle.es_selectors.specs.Selects.{selects}
-use Rattle.es_config.specs.Settings.{Options}
+use Rattle.es_settings.specs.Settings.{Options}
 use Rattle.es_host.specs.Files.{File, rows_in}
 use Rattle.es_host.specs.Meanings.{Event, Meaning}
 use Rattle.es_host.specs.Walk.{Moment, walk}

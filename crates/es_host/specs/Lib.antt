@@ -5,8 +5,8 @@ pub mod Lawful
 pub mod Listeners
 pub mod Meanings
 pub mod Nodes
+pub mod Order
 pub mod Reports
-pub mod Sorting
 pub mod Spans
 pub mod TokensAround
 pub mod Walk

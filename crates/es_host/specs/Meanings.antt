@@ -2,9 +2,10 @@
 use Rattle.std.specs.Prelude.{◌≡◌, ℕ, ◌<◌, Bool, true, false, List, [], length, Option, Some, None, slice_get, unwrap_or}
 use Rattle.es_text.specs.declared.finding.Finding.{Finding}
 use Rattle.es_selectors.specs.declared.selector.Spelling.{Spelling}
-use Rattle.es_config.specs.declared.verdict.Verdict.{Verdict}
-use Rattle.es_config.specs.declared.verdict.Verdict.TheVariants.{Fine}
-use Rattle.es_config.specs.Settings.{Options, Setting}
+use Rattle.es_settings.specs.declared.verdict.Verdict.{Verdict}
+use Rattle.es_settings.specs.declared.verdict.Verdict.TheVariants.{Fine}
+use Rattle.es_settings.specs.Settings.{unset}
+use Rattle.es_settings.specs.Settings.{Options, Setting}
 use Rattle.es_host.specs.Files.{File}
 
 -- A rule is told of a node that a selector of its interest matches, by the selector's index; whether the walk
@@ -32,10 +33,6 @@ silence = record { id = []; verdict = λ _. Fine; interest = λ _. []; says = λ
 -- what the rule at this place of a kit means
 abbrev pub meaning_at : List Meaning → ℕ → Meaning
 meaning_at meanings place = unwrap_or (slice_get meanings place) silence
-
--- off, and without options
-abbrev pub unset : Setting
-unset = record { severity = None; options = [] }
 
 -- what is set for the rule at this place
 abbrev pub setting_at : File → ℕ → Setting

@@ -9,14 +9,14 @@ use Rattle.es_tree.specs.Around.{joined}
 use Rattle.es_selectors.specs.declared.selector.Atom.{roll-Atom}
 use Rattle.es_selectors.specs.declared.selector.Atom.TheOpen.{Atom-F}
 use Rattle.es_selectors.specs.declared.selector.Spelling.{Spelling}
-use Rattle.es_config.specs.declared.verdict.Verdict.{Verdict}
-use Rattle.es_config.specs.declared.verdict.Verdict.TheVariants.{BadOption, Fine}
-use Rattle.es_config.specs.Settings.{Options}
+use Rattle.es_settings.specs.declared.verdict.Verdict.{Verdict}
+use Rattle.es_settings.specs.declared.verdict.Verdict.TheVariants.{BadOption, Fine}
+use Rattle.es_settings.specs.Settings.{Options}
 use Rattle.es_host.specs.declared.nodes.Asked.{Asked}
 use Rattle.es_host.specs.Files.{File, rows_in}
 use Rattle.es_host.specs.Lawful.{told}
 use Rattle.es_host.specs.Meanings.{Event, Meaning}
-use Rattle.es_host.specs.Sorting.{ordered}
+use Rattle.es_host.specs.Order.{ordered}
 use Rattle.es_host.specs.Walk.{walk}
 
 -- what a rule means that looks at one node at a time

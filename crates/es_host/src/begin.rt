@@ -1,14 +1,14 @@
 //! The rules of a kit begin.
 ghost use Rattle.std.specs.Prelude.{◌≡◌, [], map, OnOk, IsTrue};
-ghost use Rattle.es_config.specs.declared.verdict.Verdict.TheVariants.{Fine};
-ghost use Rattle.es_config.specs.Settings.{options_of, setting_of};
+ghost use Rattle.es_settings.specs.declared.verdict.Verdict.TheVariants.{Fine};
+ghost use Rattle.es_settings.specs.Settings.{options_of, setting_of};
 ghost use Rattle.es_host.specs.Files.{File, file_in};
 ghost use Rattle.es_host.specs.Hearing.{EachHeard};
 ghost use Rattle.es_host.specs.Meanings.{Fits, is_on};
 
 use crate::file::FileView;
 use crate::rule::Rule;
-use es_config::RuleSetting;
+use es_settings::RuleSetting;
 use es_text::NoMemory;
 use std::alloc::Global;
 

@@ -1,5 +1,5 @@
-use es_config::FileConfig;
 use es_scopes::Scopes;
+use es_settings::FileConfig;
 use es_text::Source;
 use es_tree::Parsed;
 

@@ -1,8 +1,8 @@
 //! Rules that look at a file as a whole, and what makes rules of them.
 ghost use Rattle.std.specs.Prelude.{◌≡◌, false, List, [], IfOk, OnOk, IsTrue};
 ghost use Rattle.es_text.specs.Texts.{text_bytes};
-ghost use Rattle.es_config.specs.declared.verdict.Verdict.TheVariants.{Fine};
-ghost use Rattle.es_config.specs.Settings.{Options, have_float, options_of};
+ghost use Rattle.es_settings.specs.declared.verdict.Verdict.TheVariants.{Fine};
+ghost use Rattle.es_settings.specs.Settings.{Options, have_float, options_of};
 ghost use Rattle.es_host.specs.Files.{IsWhole, file_in};
 ghost use Rattle.es_host.specs.Nodes.{FileMeaning, is_plain};
 ghost use Rattle.es_host.specs.Spans.{findings_fit};
@@ -10,8 +10,8 @@ ghost use Rattle.es_host.specs.Spans.{findings_fit};
 use crate::file::{Ctx, FileView};
 use crate::order::in_order;
 use crate::rule::Rule;
-use es_config::Verdict;
 use es_selectors::Selector;
+use es_settings::Verdict;
 use es_text::{Finding, NoMemory};
 use serde_json::Value;
 use std::alloc::Global;

@@ -12,7 +12,7 @@ use crate::file::{Ctx, FileView};
 use crate::report::report_all;
 use crate::rule::Rule;
 use crate::walk::walk;
-use es_config::{Known, Verdict};
+use es_settings::{Known, Verdict};
 use es_text::{NoMemory, Report};
 use serde_json::Value;
 use std::alloc::Global;

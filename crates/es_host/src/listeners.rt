@@ -2,7 +2,7 @@
 ghost use Rattle.std.specs.Prelude.{ℕ, ◌≡◌, ◌≢◌, ◌<◌, ◌≤◌, List, [], ◌++◌, All, length, map, slice_get, Some, IfOk, OnOk, IsTrue};
 ghost use Rattle.es_tree.specs.Rows.{Row, kind_of};
 ghost use Rattle.es_selectors.specs.declared.selector.Spelling.{Spelling};
-ghost use Rattle.es_config.specs.Settings.{options_of, setting_of};
+ghost use Rattle.es_settings.specs.Settings.{options_of, setting_of};
 ghost use Rattle.es_host.specs.Files.{File, file_in};
 ghost use Rattle.es_host.specs.Hearing.{EachHeard};
 ghost use Rattle.es_host.specs.Lawful.{told_at};
@@ -12,8 +12,8 @@ ghost use Rattle.es_host.specs.Walk.{Moment};
 
 use crate::file::FileView;
 use crate::rule::Rule;
-use es_config::RuleSetting;
 use es_selectors::Selector;
+use es_settings::RuleSetting;
 use es_text::{Items, NoMemory};
 use es_tree::Tree;
 use std::alloc::Global;

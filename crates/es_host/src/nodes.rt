@@ -2,19 +2,19 @@
 ghost use Rattle.std.specs.Prelude.{ℕ, ◌≡◌, ◌<◌, false, List, [], ◌++◌, All, length, IfOk, OnOk, IsTrue};
 ghost use Rattle.std.specs.List.{flat_map};
 ghost use Rattle.es_text.specs.Texts.{text_bytes};
-ghost use Rattle.es_config.specs.declared.verdict.Verdict.TheVariants.{Fine};
-ghost use Rattle.es_config.specs.Settings.{Options, have_float, options_of};
+ghost use Rattle.es_settings.specs.declared.verdict.Verdict.TheVariants.{Fine};
+ghost use Rattle.es_settings.specs.Settings.{Options, have_float, options_of};
 ghost use Rattle.es_host.specs.Files.{File, IsWhole, file_of, rows_in};
 ghost use Rattle.es_host.specs.Lawful.{is_asked};
 ghost use Rattle.es_host.specs.Nodes.{NodeMeaning, finds_at, is_plain};
-ghost use Rattle.es_host.specs.Sorting.{ordered};
+ghost use Rattle.es_host.specs.Order.{ordered};
 ghost use Rattle.es_host.specs.Spans.{findings_fit};
 
 use crate::file::Ctx;
 use crate::order::in_order;
 use crate::rule::Rule;
-use es_config::Verdict;
 use es_selectors::Selector;
+use es_settings::Verdict;
 use es_text::{Finding, NoMemory};
 use serde_json::Value;
 use std::alloc::Global;
@@ -98,7 +98,7 @@ impl<J: NodeRule> EachNode<J> {
 
 impl<J: NodeRule> Rule for EachNode<J> {
     ghost use Rattle.std.specs.Prelude.{◌≡◌, map};
-    ghost use Rattle.es_config.specs.Settings.{Options};
+    ghost use Rattle.es_settings.specs.Settings.{Options};
     ghost use Rattle.es_host.specs.Nodes.{asked_of, of_nodes};
 
     ghost meaning = { λ _. of_nodes J.meaning };

@@ -2,7 +2,7 @@
 ghost use Rattle.std.specs.Prelude.{ℕ, ◌≡◌, ◌<◌, ◌≤◌, ◌^◌, List, [], ◌++◌, length, map, IfOk, OnOk, IsTrue};
 ghost use Rattle.std.specs.Str.{chars};
 ghost use Rattle.es_text.specs.Texts.{text_bytes};
-ghost use Rattle.es_config.specs.Settings.{options_of, setting_of};
+ghost use Rattle.es_settings.specs.Settings.{options_of, setting_of};
 ghost use Rattle.es_host.specs.Files.{IsWhole, file_of, rows_in};
 ghost use Rattle.es_host.specs.Hearing.{EachHeard, events_of};
 ghost use Rattle.es_host.specs.Lawful.{told};
@@ -13,7 +13,7 @@ ghost use Rattle.es_host.specs.Walk.{walk};
 
 use crate::file::Ctx;
 use crate::rule::Rule;
-use es_config::RuleSetting;
+use es_settings::RuleSetting;
 use es_text::{Finding, NoMemory, Report, Severity, Txt};
 use std::alloc::Global;
 

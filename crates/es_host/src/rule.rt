@@ -1,16 +1,16 @@
 ghost use Rattle.std.specs.Prelude.{ℕ, ◌≡◌, ◌<◌, false, List, [], ◌∷◌, ◌++◌, All, length, IfOk, OnOk, IsTrue};
 ghost use Rattle.std.specs.Str.{chars};
 ghost use Rattle.es_text.specs.Texts.{text_bytes};
-ghost use Rattle.es_config.specs.declared.verdict.Verdict.TheVariants.{Fine};
-ghost use Rattle.es_config.specs.Settings.{Options, have_float, options_of};
+ghost use Rattle.es_settings.specs.declared.verdict.Verdict.TheVariants.{Fine};
+ghost use Rattle.es_settings.specs.Settings.{Options, have_float, options_of};
 ghost use Rattle.es_host.specs.Files.{File, IsWhole, file_of, rows_in};
 ghost use Rattle.es_host.specs.Lawful.{HeardAll, Lawful, is_asked};
 ghost use Rattle.es_host.specs.Meanings.{Event, Meaning};
 ghost use Rattle.es_host.specs.Spans.{findings_fit};
 
 use crate::file::Ctx;
-use es_config::Verdict;
 use es_selectors::Selector;
+use es_settings::Verdict;
 use es_text::{Finding, NoMemory};
 use serde_json::Value;
 use std::alloc::Global;

@@ -2,7 +2,7 @@
 ghost use Rattle.std.specs.Prelude.{ℕ, ◌≡◌, ◌<◌, List, [], ◌∷◌, ◌++◌, All, length, map, Some, OnOk};
 ghost use Rattle.std.specs.List.{flat_map};
 ghost use Rattle.es_tree.specs.Rows.{IsNumbered, kind_of};
-ghost use Rattle.es_config.specs.Settings.{Options};
+ghost use Rattle.es_settings.specs.Settings.{Options};
 ghost use Rattle.es_host.specs.Files.{IsWhole, file_in, file_of, rows_in};
 ghost use Rattle.es_host.specs.Hearing.{EachHeard, events_of};
 ghost use Rattle.es_host.specs.Lawful.{hears, told_of};

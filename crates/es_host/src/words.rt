@@ -2,15 +2,15 @@
 ghost use Rattle.std.specs.Prelude.{◌≡◌, ◌<◌, false, ◌∷◌, ◌++◌, [], None, length, map, IfOk, IsTrue, OnOk};
 ghost use Rattle.es_text.specs.Spans.{is_part};
 ghost use Rattle.es_text.specs.Texts.{text_bytes};
-ghost use Rattle.es_config.specs.Settings.{have_float, options_of};
-ghost use Rattle.es_config.specs.declared.verdict.Verdict.TheVariants.{Fine};
+ghost use Rattle.es_settings.specs.Settings.{have_float, options_of};
+ghost use Rattle.es_settings.specs.declared.verdict.Verdict.TheVariants.{Fine};
 ghost use Rattle.es_host.specs.Files.{IsWhole, file_in, file_of, rows_in};
 ghost use Rattle.es_host.specs.Nodes.{count_places, found, is_plain, of_kind, parent_kind, span_at, takes_none};
 ghost use Rattle.es_host.specs.Spans.{findings_fit, fix_fits};
 
 use crate::file::{Ctx, FileView};
-use es_config::Verdict;
 use es_selectors::{Atom, Chain, Selector, Spelling};
+use es_settings::Verdict;
 use es_text::{Finding, Fix, Items, NoMemory, Span, Txt, parts_lie};
 use es_tree::{Attribute, Tree};
 use serde_json::Value;

@@ -3,9 +3,10 @@ use Rattle.std.proofs.Common.{◌≡◌, ◌∙◌, ℕ, zero, suc, ◌+◌, ◌
 use Rattle.std.specs.Prelude.{Option, Some, None, option_map, slice_get, unwrap_or}
 use Rattle.std.proofs.lemmas.List.{take_more}
 use Rattle.std.proofs.lemmas.Option.{slice_get-map, slice_get-get_or, slice_get_within}
-use Rattle.es_config.specs.Settings.{Setting}
+use Rattle.es_settings.specs.Settings.{Setting}
 use Rattle.es_host.specs.Files.{File, IsWhole}
-use Rattle.es_host.specs.Meanings.{Fits, Meaning, meaning_at, unset}
+use Rattle.es_host.specs.Meanings.{Fits, Meaning, meaning_at}
+use Rattle.es_settings.specs.Settings.{unset}
 use Rattle.es_messages.specs.declared.directive.DirectiveList.{DirectiveList}
 use Rattle.es_messages.specs.declared.directive.Entry.{Entry}
 use Rattle.es_lint.specs.Laid.{rules_under}

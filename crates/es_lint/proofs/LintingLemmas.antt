@@ -10,7 +10,7 @@ use Rattle.es_tree.specs.Numbering.{rows_of}
 use Rattle.es_parser.specs.declared.parser.ParseFault.{ParseFault}
 use Rattle.es_parser.specs.declared.parser.ParseFault.TheVariants as fault
 use Rattle.es_parser.specs.Parsing.{Deep, IsFault, IsParsed, Parses, ParsesOnce, Parsing, Unread, Whole, Wrong}
-use Rattle.es_config.specs.Settings.{Settings}
+use Rattle.es_settings.specs.Settings.{Settings}
 use Rattle.es_host.specs.Files.{File}
 use Rattle.es_host.specs.Meanings.{Meaning}
 use Rattle.es_lint.specs.Fatal.{fatal_of}

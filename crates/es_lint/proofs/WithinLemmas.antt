@@ -16,7 +16,7 @@ use Rattle.es_text.specs.declared.token.Comment.{Comment}
 use Rattle.es_text.specs.Spans.{is_part}
 use Rattle.es_text.specs.Texts.{Text, text_bytes}
 use Rattle.es_host.specs.Spans.{fix_fits, fixes_fit, reports_fit}
-use Rattle.es_host.proofs.SortingLemmas.{passes_in_order}
+use Rattle.es_settings.proofs.SortingLemmas.{passes_in_order}
 use Rattle.es_messages.specs.declared.comment.Directive.{Directive}
 use Rattle.es_messages.specs.declared.comment.Directive.TheVariants.{Disabling, DisablingLine, DisablingNextLine, Enabling, Setting, Globals}
 use Rattle.es_messages.specs.declared.directive.Mark.{Mark}

@@ -6,9 +6,9 @@ use Rattle.std.specs.declared.cmp.Ordering.{Ordering}
 use Rattle.std.specs.Ordering.{is_lt, nat_cmp, on}
 use Rattle.std.specs.Str.{bytes_eq, encode_utf8_all}
 use Rattle.es_text.specs.declared.finding.Severity.{Severity}
-use Rattle.es_config.specs.declared.global_use.GlobalUse.{GlobalUse}
-use Rattle.es_config.specs.Settings.{Setting, Settings}
-use Rattle.es_host.specs.Sorting.{in_order}
+use Rattle.es_settings.specs.declared.global_use.GlobalUse.{GlobalUse}
+use Rattle.es_settings.specs.Settings.{Setting, Settings}
+use Rattle.es_settings.specs.Sorting.{in_order}
 use Rattle.es_messages.specs.declared.directive.DirectiveList.{DirectiveList}
 use Rattle.es_messages.specs.declared.directive.Entry.{Entry}
 

@@ -10,10 +10,11 @@ use Rattle.es_tree.specs.declared.parsed.Parsed.{Parsed}
 use Rattle.es_tree.specs.declared.shape.Shape.{Shape}
 use Rattle.es_tree.specs.Numbering.{rows_of}
 use Rattle.es_parser.specs.Parsing.{Parses, Parsing, Whole}
-use Rattle.es_config.specs.Settings.{Settings}
+use Rattle.es_settings.specs.Settings.{Settings}
 use Rattle.es_host.specs.Files.{File, analysis}
-use Rattle.es_config.specs.declared.verdict.Verdict.TheVariants.{Fine}
-use Rattle.es_host.specs.Meanings.{Meaning, meaning_at, unset}
+use Rattle.es_settings.specs.declared.verdict.Verdict.TheVariants.{Fine}
+use Rattle.es_host.specs.Meanings.{Meaning, meaning_at}
+use Rattle.es_settings.specs.Settings.{unset}
 use Rattle.es_host.specs.Reports.{kit_says}
 use Rattle.es_messages.specs.declared.directive.DirectiveList.{DirectiveList}
 use Rattle.es_messages.specs.declared.suppression.Suppressed.{Suppressed}

@@ -6,7 +6,7 @@ use Rattle.std.specs.declared.cmp.Ordering.{Ordering}
 use Rattle.std.specs.Ordering.{is_lt, nat_cmp, on, then_cmp}
 use Rattle.std.specs.Str.{encode_utf8_all}
 use Rattle.es_text.specs.declared.finding.Report.{Report}
-use Rattle.es_host.specs.Sorting.{in_order}
+use Rattle.es_settings.specs.Sorting.{in_order}
 
 abbrev pub rank_by : Option (List ℕ) → ℕ → ℕ
 rank_by None order = 0

@@ -1,7 +1,7 @@
 -- What linting the bytes of a file gives.
 use Rattle.std.specs.Prelude.{◌≡◌, ℕ, zero, suc, ◌+◌, ◌-◌, ◌^◌, min, List, None, map}
 use Rattle.es_text.specs.Texts.{Text, text_of}
-use Rattle.es_config.specs.Settings.{Settings}
+use Rattle.es_settings.specs.Settings.{Settings}
 use Rattle.es_host.specs.Meanings.{Meaning}
 use Rattle.es_messages.specs.declared.message.FileResult.{FileResult}
 use Rattle.es_lint.specs.Lintings.{IsTheLinting, Linting}

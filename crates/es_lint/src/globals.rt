@@ -2,10 +2,10 @@
 ghost use Rattle.std.specs.Prelude.{◌≡◌, ◌++◌, IfOk, OnOk};
 ghost use Rattle.std.specs.Ordering.{is_lt};
 ghost use Rattle.std.specs.Str.{bytes_eq};
-ghost use Rattle.es_host.specs.Sorting.{in_order};
+ghost use Rattle.es_settings.specs.Sorting.{in_order};
 ghost use Rattle.es_lint.specs.Laid.{firsts, globals_under, is_name, name_cmp};
 
-use es_config::GlobalUse;
+use es_settings::GlobalUse;
 use es_text::{NoMemory, Txt};
 use std::alloc::Global;
 use std::cmp::Ordering;

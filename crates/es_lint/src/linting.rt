@@ -2,7 +2,7 @@
 ghost use Rattle.std.specs.Prelude.{◌≡◌, ◌++◌, ◌<◌, IfErr, IfOk, IsTrue, OnOk};
 ghost use Rattle.es_text.specs.Texts.{text_bytes};
 ghost use Rattle.es_parser.specs.Parsing.{AreInText, IsFault, IsInText, IsParsed};
-ghost use Rattle.es_config.specs.Settings.{settings_of};
+ghost use Rattle.es_settings.specs.Settings.{settings_of};
 ghost use Rattle.es_host.specs.Files.{IsWhole, file_in};
 ghost use Rattle.es_host.specs.Kits.{meanings_of};
 ghost use Rattle.es_host.specs.Reports.{kit_says};
@@ -18,7 +18,7 @@ use crate::bad::add_bad;
 use crate::fatal::fatal_of;
 use crate::order::in_order;
 use crate::settings::settings_under;
-use es_config::{FileConfig, Known};
+use es_settings::{FileConfig, Known};
 use es_host::{FileView, Kit, Rule, listen};
 use es_messages::{DirectiveList, Suppressed, directives, suppress};
 use es_parser::{ParseFault, one_parse, parse};

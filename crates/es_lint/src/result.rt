@@ -1,7 +1,7 @@
 ghost use Rattle.std.specs.Prelude.{◌≡◌, ◌+◌, ◌≤◌, length, IfOk};
 ghost use Rattle.es_text.specs.SourceFaults.{most_bytes};
 ghost use Rattle.es_text.specs.Texts.{text_of};
-ghost use Rattle.es_config.specs.Settings.{settings_of};
+ghost use Rattle.es_settings.specs.Settings.{settings_of};
 ghost use Rattle.es_host.specs.Kits.{meanings_of};
 ghost use Rattle.es_lint.specs.Lintings.{FitsKit};
 ghost use Rattle.es_lint.specs.Results.{IsLinted};
@@ -9,7 +9,7 @@ ghost use Rattle.es_lint.specs.Stages.{AtMostOnce};
 
 use crate::linting::lint_text;
 use crate::message::messages_of;
-use es_config::FileConfig;
+use es_settings::FileConfig;
 use es_host::{Kit, Rule};
 use es_messages::FileResult;
 use es_text::{Items, NoMemory, Source, SourceFault, Steps};

@@ -1,11 +1,11 @@
 //! What the comments of a text lay over what is set for it.
 ghost use Rattle.std.specs.Prelude.{◌≡◌, IfOk, length, map};
 ghost use Rattle.std.specs.Str.{bytes_eq};
-ghost use Rattle.es_config.specs.Settings.{setting_of, settings_of};
+ghost use Rattle.es_settings.specs.Settings.{setting_of, settings_of};
 ghost use Rattle.es_lint.specs.Laid.{rules_under, setting_under, settings_under, severity_under};
 
 use crate::globals::globals_under;
-use es_config::{FileConfig, RuleSetting};
+use es_settings::{FileConfig, RuleSetting};
 use es_messages::{DirectiveList, Entry};
 use es_text::{Items, NoMemory, Severity, Txt};
 use std::alloc::Global;

@@ -5,7 +5,7 @@ use Rattle.std.specs.Option.{is_none}
 use Rattle.es_text.specs.Texts.{Text, text_bytes}
 use Rattle.es_text.specs.declared.span.Span.{Span}
 use Rattle.es_text.specs.declared.token.Comment.{Comment}
-use Rattle.es_config.specs.declared.global_use.GlobalUse.{GlobalUse}
+use Rattle.es_settings.specs.declared.global_use.GlobalUse.{GlobalUse}
 use Rattle.es_messages.specs.declared.comment.Directive.{Directive}
 use Rattle.es_messages.specs.declared.comment.Directive.TheVariants.{Disabling, DisablingLine, DisablingNextLine, Enabling, Setting, Globals}
 use Rattle.es_messages.specs.declared.directive.BadEntry.{BadEntry}

@@ -11,8 +11,8 @@ use Rattle.es_text.specs.declared.finding.Severity.{Severity}
 use Rattle.es_text.specs.declared.finding.Severity.TheVariants.{Error, Warn}
 use Rattle.es_text.specs.declared.span.Span.{Span}
 use Rattle.es_text.specs.declared.token.Comment.{Comment}
-use Rattle.es_config.specs.declared.global_use.GlobalUse.{GlobalUse}
-use Rattle.es_config.specs.declared.global_use.GlobalUse.TheVariants.{Off, On}
+use Rattle.es_settings.specs.declared.global_use.GlobalUse.{GlobalUse}
+use Rattle.es_settings.specs.declared.global_use.GlobalUse.TheVariants.{Off, On}
 use Rattle.es_messages.specs.declared.comment.Directive.{Directive}
 use Rattle.es_messages.specs.declared.comment.Directive.TheVariants.{Disabling, DisablingLine, DisablingNextLine, Enabling, Setting, Globals}
 use Rattle.es_messages.specs.declared.directive.BadEntry.{BadEntry}

@@ -1,4 +1,4 @@
-use es_config::GlobalUse;
+use es_settings::GlobalUse;
 use es_text::{Items, Severity, Span, Txt};
 
 /// What a mark does to the reports that it names.

@@ -6,7 +6,7 @@ ghost use Rattle.es_messages.specs.Joined.{joined};
 use crate::character::{Class, is_blank, is_word, run, text_of};
 use crate::directive::{BadEntry, DirectiveList};
 use crate::part::next_word;
-use es_config::GlobalUse;
+use es_settings::GlobalUse;
 use es_text::{NoMemory, Span};
 use std::alloc::Global;
 

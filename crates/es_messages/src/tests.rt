@@ -10,7 +10,7 @@ use crate::{
     DirectiveList, FileResult, Mark, MarkKind, Message, UnitFix, apply, covers, directives,
     suppress,
 };
-use es_config::GlobalUse;
+use es_settings::GlobalUse;
 use es_text::{Comment, Fix, Items, MOST_BYTES, NoMemory, Report, Severity, Source, Span, Txt};
 use std::alloc::Global;
 use std::test::Fail;

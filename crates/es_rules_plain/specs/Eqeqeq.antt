@@ -11,9 +11,9 @@ use Rattle.es_tree.specs.declared.field.TheConstants.{LEFT}
 use Rattle.es_tree.specs.declared.kind.TheConstants.{BINARY_EXPRESSION}
 use Rattle.es_tree.specs.Around.{child}
 use Rattle.es_tree.specs.Rows.{Row}
-use Rattle.es_config.specs.declared.verdict.Verdict.{Verdict}
-use Rattle.es_config.specs.declared.verdict.Verdict.TheVariants.{BadOption, Fine}
-use Rattle.es_config.specs.Settings.{Options}
+use Rattle.es_settings.specs.declared.verdict.Verdict.{Verdict}
+use Rattle.es_settings.specs.declared.verdict.Verdict.TheVariants.{BadOption, Fine}
+use Rattle.es_settings.specs.Settings.{Options}
 use Rattle.es_host.specs.Files.{File, rows_in}
 use Rattle.es_host.specs.Nodes.{NodeMeaning, found, of_kind, span_at}
 use Rattle.es_host.specs.TokensAround.{past_parentheses}

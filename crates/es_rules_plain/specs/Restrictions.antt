@@ -7,9 +7,9 @@ use Rattle.std.specs.Str.{chars}
 use Rattle.serde_json.specs.Data.{Data, Members, member, no_members}
 use Rattle.serde_json.specs.Find.{as_object, as_str, get}
 use Rattle.es_selectors.specs.declared.selector.Spelling.{Spelling}
-use Rattle.es_config.specs.declared.verdict.Verdict.{Verdict}
-use Rattle.es_config.specs.declared.verdict.Verdict.TheVariants.{BadOption, BadSelector, Fine}
-use Rattle.es_config.specs.Settings.{Options}
+use Rattle.es_settings.specs.declared.verdict.Verdict.{Verdict}
+use Rattle.es_settings.specs.declared.verdict.Verdict.TheVariants.{BadOption, BadSelector, Fine}
+use Rattle.es_settings.specs.Settings.{Options}
 use Rattle.es_rules_plain.specs.declared.restriction.Restriction.{Restriction}
 use Rattle.es_rules_plain.specs.SpelledSelectors.{spelled}
 

@@ -8,9 +8,9 @@ use Rattle.es_text.specs.declared.span.Span.{Span}
 use Rattle.es_tree.specs.declared.kind.TheConstants.{BREAK_STATEMENT, CLASS_DECLARATION, CONTINUE_STATEMENT, DEBUGGER_STATEMENT, DO_WHILE_STATEMENT, EXPORT_ALL_DECLARATION, EXPORT_DEFAULT_DECLARATION, EXPORT_NAMED_DECLARATION, EXPRESSION_STATEMENT, FOR_IN_STATEMENT, FOR_OF_STATEMENT, FOR_STATEMENT, FUNCTION_DECLARATION, IMPORT_DECLARATION, PROPERTY_DEFINITION, RETURN_STATEMENT, THROW_STATEMENT, VARIABLE_DECLARATION}
 use Rattle.es_tree.specs.Around.{child, is_one_of, is_some_of, stands_as}
 use Rattle.es_tree.specs.Rows.{Row}
-use Rattle.es_config.specs.declared.verdict.Verdict.{Verdict}
-use Rattle.es_config.specs.declared.verdict.Verdict.TheVariants.{BadOption, Fine}
-use Rattle.es_config.specs.Settings.{Options}
+use Rattle.es_settings.specs.declared.verdict.Verdict.{Verdict}
+use Rattle.es_settings.specs.declared.verdict.Verdict.TheVariants.{BadOption, Fine}
+use Rattle.es_settings.specs.Settings.{Options}
 use Rattle.es_host.specs.Files.{File, rows_in}
 use Rattle.es_host.specs.Nodes.{NodeMeaning, found, of_kind, span_at}
 use Rattle.es_host.specs.TokensAround.{is_some_token, token_before}

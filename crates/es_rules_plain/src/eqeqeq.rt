@@ -10,9 +10,9 @@ ghost use Rattle.es_rules_plain.specs.Eqeqeq.{is_excuse, is_option, is_sure, ope
 
 use crate::literals::{Sort, is_same_sort, some_sort};
 use crate::operators::{RIGHT, is_binary, is_some_typeof};
-use es_config::Verdict;
 use es_host::{Ctx, NodeRule, of_kinds, plain};
 use es_selectors::Selector;
+use es_settings::Verdict;
 use es_text::{Finding, NoMemory, Span};
 use es_tree::field::LEFT;
 use es_tree::{Tree, child, kind};

@@ -1,15 +1,14 @@
 ghost use Rattle.std.specs.Prelude.{◌≡◌, ◌<◌, ◌+◌, ◌||◌, ◌++◌, ◌∷◌, [], false, length, option_map, None, IfOk, IsTrue, OnOk};
 ghost use Rattle.std.specs.Option.{option_map_or};
-ghost use Rattle.es_text.specs.Spans.{is_part};
 ghost use Rattle.es_text.specs.Texts.{text_bytes};
 ghost use Rattle.es_host.specs.Files.{IsWhole, file_in, file_of, rows_in};
-ghost use Rattle.es_host.specs.Nodes.{found, span_at};
+ghost use Rattle.es_host.specs.Nodes.{found};
 ghost use Rattle.es_host.specs.Spans.{findings_fit};
 ghost use Rattle.es_rules_plain.specs.NoDuplicateCase.{Texts, are_texts, duplicate, has, no_duplicate_case, said_at, same};
 ghost use Rattle.es_rules_plain.specs.NoDuplicateCase.{stands_before, test_texts, texts_in, texts_of};
 
 use es_host::{Ctx, FileView, SimpleNodeRule, count_places, plain};
-use es_text::{Finding, NoMemory, Span, Txt, parts_lie};
+use es_text::{Finding, NoMemory, Span, Txt};
 use es_tree::field::TEST;
 use es_tree::{child, kind};
 use std::alloc::Global;
@@ -92,24 +91,9 @@ fn judge_clause<'a>(
     };
     let texts = test_texts(alloc, ctx, clause)?;
     if is_seen(seen, texts)? {
-        ctx.report(span_of(ctx, clause), duplicate(alloc)?, None, findings)?;
+        ctx.report(ctx.file.span_of(clause), duplicate(alloc)?, None, findings)?;
     }
     Ok(())
-}
-
-/// The span of the node, and the empty one at the text's start where no node has the number.
-fn span_of(ctx: &Ctx, node: u32) -> Span
-    requires { IsWhole (file_of ctx.now) }
-    ensures span { result ≡ span_at (rows_in (file_of ctx.now)) node }
-    ensures inside { IsTrue (is_part (text_bytes (file_of ctx.now).text) result) }
-{
-    if node < ctx.file.parsed.tree.count() {
-        return ctx.span(node);
-    }
-    parts_lie();
-    // A character begins at the start of a text, as its call says.
-    let _text = ctx.file.source.text();
-    Span { start: 0, end: 0 }
 }
 
 /// The texts of the tokens of the clause's test, or `None` for a `default`.
@@ -122,7 +106,7 @@ fn test_texts<'a>(
     ensures { IfOk result (λ texts. option_map texts_of texts ≡ test_texts (file_of ctx.now) clause) }
 {
     match child(&ctx.file.parsed.tree, clause, TEST) {
-        Some(test) => Ok(Some(texts_in(alloc, ctx.file, span_of(ctx, test))?)),
+        Some(test) => Ok(Some(texts_in(alloc, ctx.file, ctx.file.span_of(test))?)),
         None => Ok(None),
     }
 }

@@ -1,9 +1,9 @@
 ghost use Rattle.std.specs.Prelude.{◌≡◌};
 
 use crate::restriction::{Restriction, restrictions_in, selectors_of, verdict_on};
-use es_config::Verdict;
 use es_host::{Ctx, NodeRule};
 use es_selectors::Selector;
+use es_settings::Verdict;
 use es_text::{Finding, NoMemory};
 use serde_json::Value;
 use std::alloc::Global;

@@ -4,14 +4,14 @@ ghost use Rattle.std.specs.Str.{chars};
 ghost use Rattle.serde_json.specs.Find.{as_str};
 ghost use Rattle.serde_json.specs.View.{view};
 ghost use Rattle.serde_json.specs.Written.{has_float};
-ghost use Rattle.es_config.specs.declared.verdict.Verdict.TheVariants.{Fine};
-ghost use Rattle.es_config.specs.Settings.{have_float, options_of};
+ghost use Rattle.es_settings.specs.declared.verdict.Verdict.TheVariants.{Fine};
+ghost use Rattle.es_settings.specs.Settings.{have_float, options_of};
 ghost use Rattle.es_rules_plain.specs.Restrictions.{by_count, message_in, restricted_by, restriction_in, restrictions};
 ghost use Rattle.es_rules_plain.specs.Restrictions.{text_at, told_usually, usual, verdict_of, verdict_on};
 ghost use Rattle.es_rules_plain.specs.SpelledSelectors.{spelled};
 
-use es_config::Verdict;
 use es_selectors::{Selector, SelectorFault, Spelling, read};
+use es_settings::Verdict;
 use es_text::{Items, NoMemory, Txt};
 use serde_json::Value;
 use std::alloc::Global;

@@ -1,14 +1,14 @@
 ghost use Rattle.std.specs.Prelude.{ℕ, ◌≡◌, false, List, IfOk, IsTrue};
 ghost use Rattle.es_text.specs.Spans.{is_part};
-ghost use Rattle.es_config.specs.declared.verdict.Verdict.TheVariants.{Fine};
-ghost use Rattle.es_config.specs.Settings.{have_float, options_of};
+ghost use Rattle.es_settings.specs.declared.verdict.Verdict.TheVariants.{Fine};
+ghost use Rattle.es_settings.specs.Settings.{have_float, options_of};
 ghost use Rattle.es_host.specs.Files.{IsWhole, file_in};
 ghost use Rattle.es_rules_plain.specs.Semi.{declares, end_of, ends_in_semicolon, missing, reads_semi, takes_always};
 
 use crate::eqeqeq::is_option;
-use es_config::Verdict;
 use es_host::{Ctx, FileView, NodeRule, of_kinds, plain};
 use es_selectors::Selector;
+use es_settings::Verdict;
 use es_text::{Finding, Fix, NoMemory, Span, Txt};
 use es_tree::{Tree, child, is_one_of, kind, stands_as};
 use serde_json::Value;

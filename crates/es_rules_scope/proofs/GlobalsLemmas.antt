@@ -5,7 +5,7 @@ use Rattle.std.specs.Map.{update}
 use Rattle.std.specs.Str.{bytes_eq, encode_utf8_all}
 use Rattle.std.proofs.Math.ListN.{get_or}
 use Rattle.std.proofs.lemmas.List.{reverse-append, take_more}
-use Rattle.es_config.specs.declared.global_use.GlobalUse.{GlobalUse}
+use Rattle.es_settings.specs.declared.global_use.GlobalUse.{GlobalUse}
 use Rattle.es_rules_scope.specs.Globals.{use_of}
 
 abbrev Entry : Type 0

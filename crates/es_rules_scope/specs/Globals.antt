@@ -5,9 +5,9 @@ use Rattle.std.specs.List.{list_any}
 use Rattle.std.specs.Str.{bytes_eq, encode_utf8_all}
 use Rattle.es_text.specs.declared.token.SourceType.{SourceType}
 use Rattle.es_text.specs.declared.token.SourceType.TheVariants.{Commonjs}
-use Rattle.es_config.specs.declared.global_use.GlobalUse.{GlobalUse}
-use Rattle.es_config.specs.declared.global_use.GlobalUse.TheVariants.{Off, On}
-use Rattle.es_config.specs.Settings.{Settings}
+use Rattle.es_settings.specs.declared.global_use.GlobalUse.{GlobalUse}
+use Rattle.es_settings.specs.declared.global_use.GlobalUse.TheVariants.{Off, On}
+use Rattle.es_settings.specs.Settings.{Settings}
 use Rattle.es_rules_scope.specs.declared.globals.Globals.{Globals}
 
 unfoldable pub built_in : List (List ℕ)

@@ -4,10 +4,10 @@ ghost use Rattle.std.specs.HashMap.{get_by_text};
 ghost use Rattle.std.specs.List.{list_any};
 ghost use Rattle.std.specs.Map.{update};
 ghost use Rattle.std.specs.Str.{bytes_eq, encode_utf8_all};
-ghost use Rattle.es_config.specs.Settings.{settings_of};
+ghost use Rattle.es_settings.specs.Settings.{settings_of};
 ghost use Rattle.es_rules_scope.specs.Globals.{AreGlobals, built_in, is_built_in, is_commonjs, is_global_by, is_word, of_commonjs, use_of};
 
-use es_config::{FileConfig, GlobalUse};
+use es_settings::{FileConfig, GlobalUse};
 use es_text::{NoMemory, SourceType, Txt};
 use std::alloc::Global;
 use std::collections::HashMap;

@@ -3,10 +3,11 @@ use Rattle.std.proofs.Common.{◌≡◌, ◌∙◌, ℕ, zero, suc, ◌<◌, ◌
 use Rattle.std.specs.Prelude.{replicate, slice_get, unwrap_or}
 use Rattle.std.proofs.lemmas.List.{length-map, length-replicate}
 use Rattle.std.proofs.lemmas.Option.{unwrap_or-slice_get}
-use Rattle.es_config.specs.declared.verdict.Verdict.TheVariants.{Fine}
-use Rattle.es_config.specs.Settings.{Settings}
+use Rattle.es_settings.specs.declared.verdict.Verdict.TheVariants.{Fine}
+use Rattle.es_settings.specs.Settings.{Settings}
 use Rattle.es_host.specs.Kits.{KitOf, NeedsNoOptions, meanings_of}
-use Rattle.es_host.specs.Meanings.{Meaning, meaning_at, silence, unset}
+use Rattle.es_host.specs.Meanings.{Meaning, meaning_at, silence}
+use Rattle.es_settings.specs.Settings.{unset}
 use Rattle.es_lint.specs.Lintings.{FitsKit}
 use Rattle.es_run.specs.Fresh.{set_for}
 use Rattle.es_run.specs.Programs.{all_at_error, at_error, source_type_of}

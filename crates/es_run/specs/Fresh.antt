@@ -6,7 +6,7 @@ use Rattle.std.specs.Str.{chars}
 use Rattle.std.specs.FinMap as finite
 use Rattle.es_text.specs.SourceFaults.{most_bytes}
 use Rattle.es_text.specs.Texts.{Text, text_of}
-use Rattle.es_config.specs.Settings.{Settings}
+use Rattle.es_settings.specs.Settings.{Settings}
 use Rattle.es_host.specs.Meanings.{Meaning}
 use Rattle.es_format.specs.Stylish.{error, stylish_of}
 use Rattle.es_messages.specs.declared.message.FileResult.{FileResult}

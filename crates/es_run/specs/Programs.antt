@@ -4,7 +4,7 @@ use Rattle.std.specs.List.{ends_with}
 use Rattle.es_text.specs.declared.finding.Severity.TheVariants.{Error, Warn}
 use Rattle.es_text.specs.declared.token.SourceType.{SourceType}
 use Rattle.es_text.specs.declared.token.SourceType.TheVariants.{Commonjs, Module}
-use Rattle.es_config.specs.Settings.{Setting, Settings}
+use Rattle.es_settings.specs.Settings.{Setting, Settings}
 
 -- as ESLint's flat configuration has it: `.cjs` is CommonJS, and every other name a module
 unfoldable pub source_type_of : List ℕ → SourceType

@@ -1,7 +1,7 @@
 //! The report on one file.
 ghost use Rattle.std.specs.Prelude.{◌≡◌, ◌≤◌, ◌<◌, IfOk, length};
 ghost use Rattle.es_text.specs.SourceFaults.{most_bytes};
-ghost use Rattle.es_config.specs.Settings.{settings_of};
+ghost use Rattle.es_settings.specs.Settings.{settings_of};
 ghost use Rattle.es_host.specs.Kits.{NeedsNoOptions, meanings_of};
 ghost use Rattle.es_lint.specs.Lintings.{FitsKit};
 ghost use Rattle.es_lint.specs.Results.{IsLinted};
@@ -12,7 +12,7 @@ ghost use Rattle.es_run.specs.Fresh.{has_error};
 ghost use Rattle.es_run.specs.Stages.{IsReportOn};
 
 use crate::settings::config_at_error;
-use es_config::{FileConfig, Known};
+use es_settings::{FileConfig, Known};
 use es_format::stylish;
 use es_host::{Kit, Rule};
 use es_lint::lint;

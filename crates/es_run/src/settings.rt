@@ -1,9 +1,9 @@
 //! What a run sets for the linting of a file.
 ghost use Rattle.std.specs.Prelude.{◌≡◌, IfOk};
-ghost use Rattle.es_config.specs.Settings.{settings_of};
+ghost use Rattle.es_settings.specs.Settings.{settings_of};
 ghost use Rattle.es_run.specs.Programs.{all_at_error};
 
-use es_config::{FileConfig, RuleSetting};
+use es_settings::{FileConfig, RuleSetting};
 use es_text::{Items, NoMemory, Severity, SourceType};
 use std::alloc::Global;
 

@@ -1,6 +1,6 @@
 -- Kits whose rules mean the same as before.
 use Rattle.std.proofs.Common.{◌≡◌, zero, suc, List, [], ◌∷◌, All, map, sym, subst, arith}
-use Rattle.es_config.specs.declared.verdict.Verdict.TheVariants.{Fine}
+use Rattle.es_settings.specs.declared.verdict.Verdict.TheVariants.{Fine}
 use Rattle.es_host.specs.Kits.{KitOf, NeedsNoOptions}
 use Rattle.es_host.specs.Meanings.{Meaning}
 

@@ -1,6 +1,6 @@
 //! A rule for tests that draws a number at each event.
 
-use es_config::Verdict;
+use es_settings::Verdict;
 use es_host::{Ctx, Rule, no_options};
 use es_selectors::{Selector, read};
 use es_text::{Finding, NoMemory};

@@ -4,7 +4,7 @@
 
 ghost use Rattle.std.specs.Prelude.{◌≡◌, ◌≢◌, ◌<◌, ◌^◌, All, [], length};
 ghost use Rattle.std.specs.IoError.{error_kind};
-ghost use Rattle.es_config.specs.declared.verdict.Verdict.TheVariants.{Fine};
+ghost use Rattle.es_settings.specs.declared.verdict.Verdict.TheVariants.{Fine};
 
 use es_files::{RealErr, RealFiles, RealOut};
 use es_host::{EachFile, EachNode, Kit, Rule};

@@ -8,7 +8,7 @@ use crate::plain_texts::{
     COND_ASSIGN, DEFAULT_LAST, EMPTY, EQUAL, EQUAL_SMART, EXTRA_SEMI, NEGATION, REFUSED, SPARSE,
     TYPEOF,
 };
-use es_config::{FileConfig, Known, RuleSetting, Verdict};
+use es_settings::{FileConfig, Known, RuleSetting, Verdict};
 use es_host::{EachNode, FileView, Kit, Rule, listen};
 use es_parser::{ParseFault, parse};
 use es_rules_plain::{

@@ -1,5 +1,5 @@
 ghost use Rattle.std.specs.Prelude.{◌≡◌, ◌≤◌, ◌<◌, ◌^◌, All, [], length, IfOk};
-ghost use Rattle.es_config.specs.declared.verdict.Verdict.TheVariants.{Fine};
+ghost use Rattle.es_settings.specs.declared.verdict.Verdict.TheVariants.{Fine};
 ghost use Rattle.es_host.specs.Kits.{NeedsNoOptions};
 
 use crate::draws::Draws;

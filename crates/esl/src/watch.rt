@@ -1,5 +1,5 @@
 //! Rules for tests, which say where each node of one kind stands. Their messages are their ids.
-use es_config::Verdict;
+use es_settings::Verdict;
 use es_host::{Ctx, NodeRule, SimpleNodeRule, no_options, of_kinds};
 use es_selectors::Selector;
 use es_text::{Finding, NoMemory};

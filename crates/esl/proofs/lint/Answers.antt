@@ -1,5 +1,5 @@
 use Rattle.std.proofs.Common.{◌≡◌, [], ◌∷◌, refl}
-use Rattle.es_config.specs.declared.verdict.Verdict.TheVariants.{Fine}
+use Rattle.es_settings.specs.declared.verdict.Verdict.TheVariants.{Fine}
 use Rattle.esl.proofs.KitsLemmas.{all_listed, at_vtable}
 use Rattle.esl.proofs.lint.Goals as goal
 use Rattle.esl.proofs.lint.OwnLists

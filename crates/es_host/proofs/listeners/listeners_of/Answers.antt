@@ -1,7 +1,7 @@
 use Rattle.std.proofs.Common.{rules, arith, ◌≡◌, ℕ, ◌∙◌, ◌<◌, ◌++◌, [], ap, refl, sym, subst, length, map, slice_index_or, List}
 use Rattle.std.specs.Prelude.{IsTrue}
 use Rattle.es_selectors.specs.declared.selector.Spelling.{Spelling}
-use Rattle.es_config.specs.Settings.{options_of}
+use Rattle.es_settings.specs.Settings.{options_of}
 use Rattle.es_host.specs.declared.file.FileView.{FileView}
 use Rattle.es_host.specs.Files.{File, file_in}
 use Rattle.es_host.specs.Lawful.{told_at}

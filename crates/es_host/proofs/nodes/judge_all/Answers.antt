@@ -7,7 +7,7 @@ use Rattle.es_text.specs.Texts.{text_bytes}
 use Rattle.es_host.proofs.SpansLemmas.{ordered-fit}
 use Rattle.es_host.specs.Files.{file_of}
 use Rattle.es_host.specs.Nodes.{finds_at}
-use Rattle.es_host.specs.Sorting.{ordered}
+use Rattle.es_host.specs.Order.{ordered}
 use Rattle.es_host.specs.Spans.{findings_fit}
 use Rattle.es_host.proofs.nodes.judge_all.Goals as goal
 

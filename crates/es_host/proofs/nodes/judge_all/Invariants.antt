@@ -2,7 +2,7 @@ use Rattle.std.proofs.Common.{◌≡◌, take}
 use Rattle.std.specs.List.{flat_map}
 use Rattle.std.specs.Prelude.{IsTrue}
 use Rattle.es_text.specs.Texts.{text_bytes}
-use Rattle.es_config.specs.Settings.{Options}
+use Rattle.es_settings.specs.Settings.{Options}
 use Rattle.es_host.specs.Files.{file_of}
 use Rattle.es_host.specs.Nodes.{finds_at}
 use Rattle.es_host.specs.Spans.{findings_fit}

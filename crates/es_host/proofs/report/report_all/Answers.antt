@@ -1,6 +1,6 @@
 use Rattle.std.proofs.Common.{rules, ◌≡◌, ◌∙◌, ℕ, ◌<◌, ◌++◌, List, length, map, ap, sym}
 use Rattle.std.proofs.Math.Seq.{map-set_same}
-use Rattle.es_config.specs.Settings.{options_of}
+use Rattle.es_settings.specs.Settings.{options_of}
 use Rattle.es_host.specs.declared.file.FileView.{FileView}
 use Rattle.es_host.proofs.ListsLemmas.{From-set, range-more}
 use Rattle.es_host.proofs.MeaningsLemmas.{set-within}

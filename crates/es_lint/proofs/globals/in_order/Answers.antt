@@ -5,7 +5,7 @@ use Rattle.std.specs.Str.{encode_utf8_all}
 use Rattle.std.proofs.lemmas.Cmp.{lists_total, nat_cmp_total, on_total}
 use Rattle.std.proofs.lemmas.List.MinMax.{ranks_by}
 use Rattle.std.proofs.lemmas.List.Sorted.{answers_always}
-use Rattle.es_host.proofs.SortingLemmas.{sorted_in_order}
+use Rattle.es_settings.proofs.SortingLemmas.{sorted_in_order}
 use Rattle.es_lint.specs.Laid.{Global, name_cmp}
 use Rattle.es_lint.proofs.globals.in_order.Goals as goal
 

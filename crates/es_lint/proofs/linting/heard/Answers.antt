@@ -1,7 +1,7 @@
 use Rattle.std.proofs.Common.{◌∙◌, ap, length, subst, sym}
 use Rattle.std.proofs.lemmas.List.{length-map}
 use Rattle.std.proofs.lemmas.Result.{IfOk-weaker}
-use Rattle.es_config.specs.Settings.{setting_of}
+use Rattle.es_settings.specs.Settings.{setting_of}
 use Rattle.es_host.specs.Files.{IsWhole, file_in}
 use Rattle.es_host.specs.Kits.{meanings_of}
 use Rattle.es_host.specs.Meanings.{Fits, Meaning}

@@ -1,5 +1,5 @@
 use Rattle.std.proofs.lemmas.Result.{IfOk-weaker}
-use Rattle.es_config.specs.Settings.{settings_of}
+use Rattle.es_settings.specs.Settings.{settings_of}
 use Rattle.es_host.specs.Kits.{meanings_of}
 use Rattle.es_lint.specs.Stages.{linting_of}
 use Rattle.es_lint.proofs.LintingLemmas.{fault_linted, parsed_linted}

@@ -6,7 +6,7 @@ use Rattle.std.proofs.lemmas.Cmp.{lists_total, nat_cmp_total, on_total, then_tot
 use Rattle.std.proofs.lemmas.List.MinMax.{ranks_by}
 use Rattle.std.proofs.lemmas.List.Sorted.{answers_always}
 use Rattle.es_text.specs.declared.finding.Report.{Report}
-use Rattle.es_host.proofs.SortingLemmas.{sorted_in_order}
+use Rattle.es_settings.proofs.SortingLemmas.{sorted_in_order}
 use Rattle.es_lint.specs.Order.{rank_of, report_cmp}
 use Rattle.es_lint.proofs.order.in_order.Goals as goal
 

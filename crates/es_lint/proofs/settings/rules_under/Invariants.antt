@@ -1,5 +1,5 @@
 use Rattle.std.proofs.Common.{◌≡◌, ◌++◌, drop, map}
-use Rattle.es_config.specs.Settings.{setting_of}
+use Rattle.es_settings.specs.Settings.{setting_of}
 use Rattle.es_lint.specs.Laid.{rules_under}
 use Rattle.es_lint.proofs.settings.rules_under.Given as goal
 

@@ -1,8 +1,8 @@
 use Rattle.std.proofs.Common.{◌≡◌, ◌∙◌, ℕ, ◌+◌, ◌<◌, ◌≤◌, true, cond, List, length, take, drop, ap, sym, arith, Option, Some, None, option_map}
 use Rattle.std.specs.List.{after_first, before_first, list_any, position_or_len}
 use Rattle.std.proofs.lemmas.List.{length-take-le, take_rest}
-use Rattle.es_config.specs.declared.global_use.GlobalUse.{GlobalUse}
-use Rattle.es_config.specs.declared.global_use.GlobalUse.TheVariants.{On}
+use Rattle.es_settings.specs.declared.global_use.GlobalUse.{GlobalUse}
+use Rattle.es_settings.specs.declared.global_use.GlobalUse.TheVariants.{On}
 use Rattle.es_messages.specs.Classes.{is_colon}
 use Rattle.es_messages.specs.Directives.{global_of, named, use_of}
 use Rattle.es_messages.specs.Stretches.{holds}

@@ -1,6 +1,6 @@
 use Rattle.std.proofs.Common.{◌≡◌, false, drop, map, take}
 use Rattle.serde_json.specs.View.{view}
-use Rattle.es_config.specs.Settings.{have_float}
+use Rattle.es_settings.specs.Settings.{have_float}
 use Rattle.es_rules_plain.specs.Restrictions.{verdict_on}
 use Rattle.es_rules_plain.proofs.restriction.verdict_on.Given as goal
 

@@ -1,5 +1,5 @@
 use Rattle.std.proofs.Common.{◌∙◌, ap}
-use Rattle.es_config.specs.Settings.{settings_of}
+use Rattle.es_settings.specs.Settings.{settings_of}
 use Rattle.es_run.specs.Programs.{all_at_error}
 use Rattle.es_run.proofs.KitsLemmas.{fits-at-error, set_here}
 use Rattle.es_run.proofs.report.report_on.Goals as goal

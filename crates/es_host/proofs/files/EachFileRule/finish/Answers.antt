@@ -3,7 +3,7 @@ use Rattle.std.specs.Prelude.{IsTrue}
 use Rattle.std.proofs.lemmas.Result.{IfOk-weaker}
 use Rattle.es_text.specs.Texts.{text_bytes}
 use Rattle.es_host.proofs.SpansLemmas.{ordered-fit}
-use Rattle.es_host.specs.Sorting.{ordered}
+use Rattle.es_host.specs.Order.{ordered}
 use Rattle.es_host.specs.Spans.{findings_fit}
 use Rattle.es_host.proofs.files.EachFileRule.finish.Goals as goal
 

@@ -5,7 +5,7 @@ use Rattle.es_tree.specs.Rows.{Row}
 use Rattle.es_host.specs.Files.{file_of, rows_in}
 use Rattle.es_host.specs.Lawful.{is_asked}
 use Rattle.es_host.specs.Nodes.{asked_in, asked_of, finds_at}
-use Rattle.es_host.specs.Sorting.{ordered}
+use Rattle.es_host.specs.Order.{ordered}
 use Rattle.es_host.proofs.NodesLemmas.{asked-right}
 use Rattle.es_host.proofs.nodes.EachNodeRule.finish.Goals as goal
 

@@ -1,8 +1,8 @@
 -- The rules that a configuration may name.
 use Rattle.std.specs.Prelude.{◌≡◌, ◌≢◌, ℕ, ◌<◌, List, [], Some, slice_get}
-use Rattle.es_config.specs.declared.verdict.Verdict.{Verdict}
-use Rattle.es_config.specs.declared.verdict.Verdict.TheVariants.{Fine}
-use Rattle.es_config.specs.Settings.{Options}
+use Rattle.es_settings.specs.declared.verdict.Verdict.{Verdict}
+use Rattle.es_settings.specs.declared.verdict.Verdict.TheVariants.{Fine}
+use Rattle.es_settings.specs.Settings.{Options}
 
 -- the id stands at this place, and at none before
 pub record IsFirstAt (ids : List (List ℕ)) (id : List ℕ) (place : ℕ) : Type 0 where

@@ -1,7 +1,8 @@
 ghost use Rattle.std.specs.Prelude.{◌≡◌, map, IfOk};
-ghost use Rattle.es_config.specs.Settings.{options_of, setting_of, settings_of};
+ghost use Rattle.es_settings.specs.Settings.{options_of, setting_of, settings_of};
 
 use crate::global_use::GlobalUse;
+use crate::globals::add_copies;
 use es_text::{Items, NoMemory, Severity, SourceType, Txt};
 use serde_json::Value;
 use std::alloc::Global;
@@ -57,7 +58,7 @@ impl FileConfig {
     }
 }
 
-fn copy_options(alloc: Global, options: &[Value]) -> Result<Vec<Value>, NoMemory>
+pub fn copy_options(alloc: Global, options: &[Value]) -> Result<Vec<Value>, NoMemory>
     ensures { IfOk result (λ copies. options_of copies.items ≡ options_of options.now) }
 {
     let mut copies = Vec::with_capacity(alloc, options.len())?;
@@ -74,9 +75,7 @@ fn copy_globals(
     ensures { IfOk result (λ copies. copies.items ≡ globals.now) }
 {
     let mut copies = Vec::with_capacity(alloc, globals.len())?;
-    for (name, global) in globals {
-        copies.push((name.copy(alloc)?, *global))?;
-    }
+    add_copies(alloc, globals, &mut copies)?;
     Ok(copies)
 }
 

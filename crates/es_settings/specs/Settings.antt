@@ -1,5 +1,5 @@
 -- What is set for a file, with options as the JSON values that they hold.
-use Rattle.std.specs.Prelude.{ℕ, Bool, List, Option, map}
+use Rattle.std.specs.Prelude.{ℕ, Bool, List, [], None, Option, map}
 use Rattle.std.specs.List.{list_any}
 use Rattle.serde_json.specs.Data.{Data}
 use Rattle.serde_json.specs.View.{view}
@@ -7,9 +7,9 @@ use Rattle.serde_json.specs.Written.{has_float}
 use Rattle.serde_json.specs.declared.value.Value.{Value}
 use Rattle.es_text.specs.declared.finding.Severity.{Severity}
 use Rattle.es_text.specs.declared.token.SourceType.{SourceType}
-use Rattle.es_config.specs.declared.file_config.FileConfig.{FileConfig}
-use Rattle.es_config.specs.declared.file_config.RuleSetting.{RuleSetting}
-use Rattle.es_config.specs.declared.global_use.GlobalUse.{GlobalUse}
+use Rattle.es_settings.specs.declared.file_config.FileConfig.{FileConfig}
+use Rattle.es_settings.specs.declared.file_config.RuleSetting.{RuleSetting}
+use Rattle.es_settings.specs.declared.global_use.GlobalUse.{GlobalUse}
 
 -- the options of a rule
 abbrev pub Options : Type 0
@@ -26,6 +26,10 @@ have_float options = list_any has_float options
 pub record Setting : Type 0 where
   pub severity : Option Severity
   pub options : Options
+
+-- off, and without options
+abbrev pub unset : Setting
+unset = record { severity = None; options = [] }
 
 abbrev pub setting_of : RuleSetting → Setting
 setting_of setting = record { severity = setting.severity; options = options_of setting.options }

@@ -1,9 +1,9 @@
 ghost use Rattle.std.specs.Prelude.{◌≡◌, ◌<◌, ℕ, false, List, length, IfOk, MatchOption};
 ghost use Rattle.std.specs.Str.{chars};
-ghost use Rattle.es_config.specs.declared.verdict.Verdict.{Verdict};
-ghost use Rattle.es_config.specs.declared.verdict.Verdict.TheVariants.{Fine};
-ghost use Rattle.es_config.specs.Rules.{IsFirstAt, StandsNowhere};
-ghost use Rattle.es_config.specs.Settings.{Options, have_float, options_of};
+ghost use Rattle.es_settings.specs.declared.verdict.Verdict.{Verdict};
+ghost use Rattle.es_settings.specs.declared.verdict.Verdict.TheVariants.{Fine};
+ghost use Rattle.es_settings.specs.Rules.{IsFirstAt, StandsNowhere};
+ghost use Rattle.es_settings.specs.Settings.{Options, have_float, options_of};
 
 use crate::verdict::Verdict;
 use es_text::NoMemory;

@@ -1,0 +1,4 @@
+pub mod Globals
+pub mod Rules
+pub mod Settings
+pub mod Sorting
