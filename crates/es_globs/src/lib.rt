@@ -13,3 +13,4 @@ mod tests;
 
 pub use fault::GlobFault;
 pub use glob::{Glob, MOST_CHARACTERS, glob_matches};
+pub use part::split_first;

@@ -1,0 +1,6 @@
+use Rattle.es_config.specs.Reading.{globs_at}
+use Rattle.es_config.proofs.WalksLemmas.{InArray}
+use Rattle.es_config.proofs.file_globs.files_in.Given as goal
+
+abbrev pub invariant-loop-index : goal.invariant-loop-index
+invariant-loop-index l = InArray globs_at l.values l.index l.files

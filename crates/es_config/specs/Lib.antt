@@ -1,0 +1,9 @@
+pub mod Configurations
+pub mod Drafts
+pub mod Entries
+pub mod Laying
+pub mod Outcomes
+pub mod Reading
+pub mod Shapes
+pub mod Standing
+pub mod Walks
