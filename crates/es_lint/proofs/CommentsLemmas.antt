@@ -1,14 +1,13 @@
 -- The comments of a file lie in its text.
-use Rattle.std.proofs.Common.{◌≡◌, ◌∙◌, ℕ, true, ◌&&◌, cond, List, [], ◌∷◌, ap, refl, sym, subst, arith}
+use Rattle.std.proofs.Common.{◌≡◌, ◌∙◌, ℕ, true, cond, List, [], ◌∷◌, ap, refl, sym, subst, arith}
 use Rattle.std.proofs.lemmas.Bool.Decides.{nat_tests}
 use Rattle.std.specs.Prelude.{nat_le}
-use Rattle.std.specs.List.{All, filter, list_all}
+use Rattle.std.specs.List.{All, filter}
 use Rattle.std.specs.Str.{IsCharBoundary, IsUtf8}
 use Rattle.es_text.specs.declared.token.Token.{Token}
-use Rattle.es_text.specs.Spans.{PartsLie, is_part}
+use Rattle.es_text.specs.Spans.{PartsLie}
 use Rattle.es_text.specs.Texts.{text_bytes}
 use Rattle.es_text.specs.Within.{CommentsLie}
-use Rattle.es_parser.specs.Parsing.{IsParsed}
 use Rattle.es_host.specs.Files.{File, IsWhole}
 use Rattle.es_host.specs.TokensAround.{AreInside, tokens_from}
 use Rattle.es_messages.specs.Directives.{comments_fit}

@@ -1,16 +1,15 @@
 -- The texts of fatal reports, and where they stand.
-use Rattle.std.proofs.Common.{◌≡◌, ℕ, ◌<◌, ◌^◌, ◌&&◌, List, [], ◌∷◌, ◌++◌, true, refl, sym, ap, subst, arith, ◌∙◌}
+use Rattle.std.proofs.Common.{◌≡◌, ℕ, ◌<◌, ◌^◌, List, [], ◌∷◌, ◌++◌, true, refl, sym, ap, subst, arith, ◌∙◌}
 use Rattle.std.proofs.lemmas.Bool.{and_parts}
 use Rattle.std.proofs.lemmas.Bool.Decides.{nat_tests}
 use Rattle.std.proofs.lemmas.Fmt.{IsAscii-decimal}
 use Rattle.std.proofs.lemmas.Str.{IsAscii-append, chars-IsAscii}
 use Rattle.std.proofs.lemmas.Str.Ascii.{IsAscii-cons, IsAscii-nil}
 use Rattle.std.specs.List.{list_all}
-use Rattle.std.specs.Prelude.{Some, None, Option, Result, Ok, Err, IfOk, codes, nat_lt}
+use Rattle.std.specs.Prelude.{Some, None, Result, Ok, Err, IfOk, codes, nat_lt}
 use Rattle.std.specs.Fmt.{decimal}
 use Rattle.std.specs.Str.{IsAscii, chars}
 use Rattle.es_text.specs.declared.finding.Report.{Report}
-use Rattle.es_text.specs.declared.span.Span.{Span}
 use Rattle.es_text.specs.Spans.{LiesIn, PartsLie, is_part}
 use Rattle.es_parser.specs.declared.parser.ParseFault.{ParseFault}
 use Rattle.es_parser.specs.declared.parser.ParseFault.TheVariants as fault

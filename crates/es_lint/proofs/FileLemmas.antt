@@ -1,5 +1,5 @@
 -- What linting a file gives, put together from its stages.
-use Rattle.std.proofs.Common.{◌≡◌, ◌∙◌, ℕ, Bool, true, ◌&&◌, List, [], ◌∷◌, ◌++◌, refl, ap, sym, subst}
+use Rattle.std.proofs.Common.{◌≡◌, ◌∙◌, ℕ, true, ◌&&◌, List, [], ◌∷◌, ◌++◌, ap}
 use Rattle.std.specs.Prelude.{IfOk, IsTrue, Option, Result, Ok, Err}
 use Rattle.es_text.specs.declared.finding.Report.{Report}
 use Rattle.es_text.specs.declared.finding.Severity.{Severity}

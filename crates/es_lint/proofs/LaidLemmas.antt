@@ -1,12 +1,12 @@
 -- What comments lay over what is set fits the rules still, and the ids of rules.
-use Rattle.std.proofs.Common.{◌≡◌, ◌∙◌, ℕ, zero, suc, ◌+◌, ◌<◌, List, [], ◌∷◌, ◌++◌, length, map, take, slice_index_or, ap, refl, sym, arith}
+use Rattle.std.proofs.Common.{◌≡◌, ◌∙◌, ℕ, zero, suc, ◌+◌, ◌<◌, List, [], ◌∷◌, ◌++◌, length, map, take, slice_index_or, ap, refl, sym}
 use Rattle.std.specs.Prelude.{Option, Some, None, option_map, slice_get, unwrap_or}
 use Rattle.std.proofs.lemmas.List.{take_more}
 use Rattle.std.proofs.lemmas.Option.{slice_get-map, slice_get-get_or, slice_get_within}
+use Rattle.es_settings.specs.Settings.{unset}
 use Rattle.es_settings.specs.Settings.{Setting}
 use Rattle.es_host.specs.Files.{File, IsWhole}
 use Rattle.es_host.specs.Meanings.{Fits, Meaning, meaning_at}
-use Rattle.es_settings.specs.Settings.{unset}
 use Rattle.es_messages.specs.declared.directive.DirectiveList.{DirectiveList}
 use Rattle.es_messages.specs.declared.directive.Entry.{Entry}
 use Rattle.es_lint.specs.Laid.{rules_under}

@@ -1,7 +1,11 @@
 pub mod BadLemmas
 pub mod CommentsLemmas
+pub mod CountsLemmas
 pub mod FatalLemmas
 pub mod FileLemmas
+pub mod FixesLemmas
 pub mod LaidLemmas
 pub mod LintingLemmas
+pub mod MarkLemmas
+pub mod PassLemmas
 pub mod WithinLemmas

@@ -15,7 +15,9 @@ use Rattle.es_host.specs.Files.{File}
 use Rattle.es_host.specs.Meanings.{Meaning}
 use Rattle.es_lint.specs.Fatal.{fatal_of}
 use Rattle.es_lint.specs.Lintings.{IsTheLinting, Linting, Lints, fatal_linting, file_of, file_with, linting_on, not_parsed, parsed}
-use Rattle.es_lint.specs.Stages.{IsUnparsed}
+use Rattle.es_lint.specs.Results.{AtMost}
+use Rattle.es_lint.specs.Stages.{AtMostOnce, IsUnparsed}
+use Rattle.es_lint.proofs.CountsLemmas.{from_once}
 
 -- a tree has no fatal report
 no_fatal : (tree : Shape) (tokens : List Token) (fatal : Report) → fatal_of (Whole tree tokens) ≡ Some fatal → ⊥
@@ -62,6 +64,15 @@ module _ (meanings : List Meaning) (settings : Settings) (text : Text) (once : P
         gives = parsed tree tokens whole.parses gives;
         only = λ other lints. parsed_only tree tokens whole.parses other lints ∙ sym gives;
       }
+
+  -- its rules listen once at most
+  pub parsed_often : (read : Parsed) → IsParsed (text_bytes text) settings.source_type read → (before now : ℕ) → AtMostOnce before now →
+      (linting : Linting) → Lints meanings settings text linting → AtMost linting.heard before now
+  parsed_often read whole before now once linting lints =
+      let same : linting ≡ linting_on meanings (file_with text read settings) =
+      (parsed_linted read (linting_on meanings (file_with text read settings)) whole refl).only linting lints in
+      let heard : linting.heard ≡ 1 = ap (λ (l : Linting). l.heard) same in
+      subst (λ n. AtMost n before now) (sym heard) (from_once before now once)
 
   -- a text that isn't
   fatal_only : (parsing : Parsing) (fatal : Report) → Parses (text_bytes text) settings.source_type parsing → fatal_of parsing ≡ Some fatal →

@@ -1,7 +1,7 @@
 -- Reports that stand or are suppressed lie in their text, and so do their fixes.
-use Rattle.std.proofs.Common.{◌≡◌, ◌∙◌, ℕ, Bool, true, false, not, ◌&&◌, List, [], ◌∷◌, ◌++◌, map, ap, refl, sym, subst}
+use Rattle.std.proofs.Common.{◌≡◌, ◌∙◌, ℕ, Bool, true, false, not, ◌&&◌, List, [], ◌∷◌, ◌++◌, map, ap, refl}
 use Rattle.std.specs.Prelude.{Option, Some, None, option_map}
-use Rattle.std.specs.List.{filter, flat_map, list_all}
+use Rattle.std.specs.List.{filter, list_all}
 use Rattle.std.specs.Option.{option_to_list}
 use Rattle.std.specs.Ordering.{is_lt}
 use Rattle.std.proofs.lemmas.Bool.{and_parts}
@@ -15,7 +15,7 @@ use Rattle.es_text.specs.declared.span.Span.{Span}
 use Rattle.es_text.specs.declared.token.Comment.{Comment}
 use Rattle.es_text.specs.Spans.{is_part}
 use Rattle.es_text.specs.Texts.{Text, text_bytes}
-use Rattle.es_host.specs.Spans.{fix_fits, fixes_fit, reports_fit}
+use Rattle.es_host.specs.Spans.{fix_fits}
 use Rattle.es_settings.proofs.SortingLemmas.{passes_in_order}
 use Rattle.es_messages.specs.declared.comment.Directive.{Directive}
 use Rattle.es_messages.specs.declared.comment.Directive.TheVariants.{Disabling, DisablingLine, DisablingNextLine, Enabling, Setting, Globals}

@@ -4,5 +4,6 @@ pub mod Laid
 pub mod Lintings
 pub mod Messages
 pub mod Order
+pub mod Passes
 pub mod Results
 pub mod Stages

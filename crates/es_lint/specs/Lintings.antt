@@ -1,6 +1,6 @@
 -- What linting a text gives: what the rules say of it under its comments, or the one fatal report where it isn't
 -- parsed. ESLint's guide, "Configure rules" and "Disable rules".
-use Rattle.std.specs.Prelude.{◌≡◌, ℕ, ◌<◌, ◌++◌, length, slice_get, unwrap_or, List, [], ◌∷◌, Option, Some, None, map, if◌then◌else◌}
+use Rattle.std.specs.Prelude.{◌≡◌, ℕ, ◌<◌, ◌++◌, length, slice_get, unwrap_or, List, [], ◌∷◌, Some, map, if◌then◌else◌}
 use Rattle.es_text.specs.declared.finding.Report.{Report}
 use Rattle.es_text.specs.declared.token.Comment.{Comment}
 use Rattle.es_text.specs.declared.token.Token.{Token}
@@ -10,11 +10,11 @@ use Rattle.es_tree.specs.declared.parsed.Parsed.{Parsed}
 use Rattle.es_tree.specs.declared.shape.Shape.{Shape}
 use Rattle.es_tree.specs.Numbering.{rows_of}
 use Rattle.es_parser.specs.Parsing.{Parses, Parsing, Whole}
+use Rattle.es_settings.specs.Settings.{unset}
 use Rattle.es_settings.specs.Settings.{Settings}
 use Rattle.es_host.specs.Files.{File, analysis}
 use Rattle.es_settings.specs.declared.verdict.Verdict.TheVariants.{Fine}
 use Rattle.es_host.specs.Meanings.{Meaning, meaning_at}
-use Rattle.es_settings.specs.Settings.{unset}
 use Rattle.es_host.specs.Reports.{kit_says}
 use Rattle.es_messages.specs.declared.directive.DirectiveList.{DirectiveList}
 use Rattle.es_messages.specs.declared.suppression.Suppressed.{Suppressed}

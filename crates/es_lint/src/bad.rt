@@ -4,10 +4,9 @@ ghost use Rattle.std.specs.Str.{chars};
 ghost use Rattle.es_text.specs.Spans.{LiesIn};
 ghost use Rattle.es_text.specs.Texts.{text_bytes};
 ghost use Rattle.es_messages.specs.Directives.{comments_fit};
-ghost use Rattle.es_messages.specs.Suppression.{lists};
 ghost use Rattle.es_lint.specs.Bad.{bad_in, bad_of, bad_report, bad_text, misshapen_in, quoted, unknown_in};
 
-use es_messages::{BadEntry, Entry, directives};
+use es_messages::{BadEntry, Entry, directives, lists};
 use es_text::{Comment, NoMemory, Report, Severity, Source, Span, Txt, parts_lie};
 use std::alloc::Global;
 
@@ -68,13 +67,6 @@ fn quoted(source: &Source, span: Span) -> &str
         Some(part) => part,
         None => "",
     }
-}
-
-/// Whether one of the ids is this one.
-fn lists(ids: &[Txt], id: &Txt) -> bool
-    ensures { result ≡ lists ids.now id.now }
-{
-    ids.iter().any(|other| other.as_str() == id.as_str())
 }
 
 /// Puts the reports of parts of another form behind the others.

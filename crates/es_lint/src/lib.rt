@@ -1,4 +1,5 @@
-//! Lints one text: parses it, takes its directives, listens to the rules, and sorts out what they say.
+//! Lints one file: parses its text, takes its directives, listens to the rules, sorts out what they say, and makes
+//! passes of fixes over it.
 #![tactic(auto)]
 
 mod bad;
@@ -7,6 +8,8 @@ mod globals;
 mod linting;
 mod message;
 mod order;
+mod pass;
+mod passes;
 mod result;
 mod settings;
 

@@ -9,20 +9,20 @@ ghost use Rattle.es_host.specs.Reports.{kit_says};
 ghost use Rattle.es_host.specs.Spans.{fixes_fit, reports_fit};
 ghost use Rattle.es_messages.specs.Directives.{comments_fit};
 ghost use Rattle.es_lint.specs.Bad.{bad_in};
-ghost use Rattle.es_lint.specs.Lintings.{FitsKit, IsTheLinting, comments_in, file_under, file_with, ids_of, linting_on};
+ghost use Rattle.es_lint.specs.Lintings.{FitsKit, IsTheLinting, Linting, Lints, comments_in, file_under, file_with, ids_of, linting_on};
 ghost use Rattle.es_lint.specs.Order.{ordered};
-ghost use Rattle.es_lint.specs.Results.{more};
+ghost use Rattle.es_lint.specs.Results.{AtMost, more};
 ghost use Rattle.es_lint.specs.Stages.{AtMostOnce, IsUnparsed, LiesWithin, linting_of, times};
 
 use crate::bad::add_bad;
 use crate::fatal::fatal_of;
 use crate::order::in_order;
 use crate::settings::settings_under;
-use es_settings::{FileConfig, Known};
 use es_host::{FileView, Kit, Rule, listen};
 use es_messages::{DirectiveList, Suppressed, directives, suppress};
 use es_parser::{ParseFault, one_parse, parse};
 use es_scopes::analyse;
+use es_settings::{FileConfig, Known};
 use es_text::{Comment, NoMemory, Report, Source, SourceType, Steps, Txt, parts_lie, tokens_lie};
 use es_tree::Parsed;
 use std::alloc::Global;
@@ -51,6 +51,8 @@ pub fn lint_text<R: Rule>(
     ensures inside { IfOk result (LiesWithin (text_bytes source.now)) }
     ensures same { meanings_of R.meaning kit.new ≡ meanings_of R.meaning kit.old }
     ensures lints { IfOk result (λ found. kit.new.lints ≡ more (times found.heard) kit.old.lints) }
+    ensures lintings { (linting : Linting) → Lints (meanings_of R.meaning kit.old) (settings_of config.now) source.now linting
+        → AtMost linting.heard kit.old.lints kit.new.lints }
     ensures once { AtMostOnce kit.old.lints kit.new.lints }
 {
     one_parse();

@@ -1,21 +1,13 @@
 //! What the comments of a text lay over what is set for it.
 ghost use Rattle.std.specs.Prelude.{◌≡◌, IfOk, length, map};
-ghost use Rattle.std.specs.Str.{bytes_eq};
 ghost use Rattle.es_settings.specs.Settings.{setting_of, settings_of};
 ghost use Rattle.es_lint.specs.Laid.{rules_under, setting_under, settings_under, severity_under};
 
 use crate::globals::globals_under;
+use es_messages::{DirectiveList, Entry, is_same};
 use es_settings::{FileConfig, RuleSetting};
-use es_messages::{DirectiveList, Entry};
 use es_text::{Items, NoMemory, Severity, Txt};
 use std::alloc::Global;
-
-/// Whether the entry is for the rule of this id.
-fn is_for(entry: &Entry, id: &Txt) -> bool
-    ensures { result ≡ bytes_eq entry.now.rule id.now }
-{
-    entry.rule.as_str() == id.as_str()
-}
 
 /// The severity of the rule of this id under the entries.
 fn severity_under(entries: &[Entry], id: &Txt, severity: Option<Severity>) -> Option<Severity>
@@ -23,7 +15,7 @@ fn severity_under(entries: &[Entry], id: &Txt, severity: Option<Severity>) -> Op
 {
     let mut last = severity;
     for entry in entries {
-        if is_for(entry, id) {
+        if is_same(&entry.rule, id) {
             last = entry.severity;
         }
     }

@@ -3,7 +3,7 @@ ghost use Rattle.std.specs.Prelude.{◌≡◌, IsTrue};
 ghost use Rattle.std.specs.Str.{bytes_eq};
 ghost use Rattle.es_text.specs.Spans.{is_part};
 ghost use Rattle.es_text.specs.Texts.{text_bytes};
-ghost use Rattle.es_messages.specs.Suppression.{covers, covers_on, line_of, lists, names};
+ghost use Rattle.es_messages.specs.Suppression.{covers, covers_on, is_reached, line_of, lists, names};
 
 use crate::directive::{Mark, MarkKind};
 use es_text::{Report, Source, Txt, parts_lie};
@@ -37,15 +37,23 @@ pub fn lists(ids: &[Txt], id: &Txt) -> bool
     false
 }
 
-/// Whether the mark covers a report that starts on this line, as `covers` says.
+/// Whether the mark reaches a report that starts on this line: it is for the line, or another one that doesn't
+/// start behind the report's start.
+fn is_reached(line: u32, mark: &Mark, report: &Report) -> bool
+    ensures { result ≡ is_reached line mark.now.kind mark.now.span.start report.now.span.start }
+{
+    match mark.kind {
+        MarkKind::Line(of) => line == of,
+        MarkKind::Disable | MarkKind::Enable => mark.span.start <= report.span.start,
+    }
+}
+
+/// Whether the mark covers a report that starts on this line, as `covers` says. Its rules are read only where
+/// it reaches the report.
 pub fn covers_on(line: u32, mark: &Mark, report: &Report) -> bool
     ensures { result ≡ covers_on line mark.now report.now }
 {
-    names(mark.rules.as_slice(), &report.rule)
-        && match mark.kind {
-            MarkKind::Line(of) => line == of,
-            MarkKind::Disable | MarkKind::Enable => mark.span.start <= report.span.start,
-        }
+    is_reached(line, mark, report) && names(mark.rules.as_slice(), &report.rule)
 }
 
 /// Whether a mark for a line names the report's rule and the report starts on that line; of the other marks,

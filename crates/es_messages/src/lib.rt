@@ -22,7 +22,7 @@ mod suppression;
 mod tests;
 mod unused;
 
-pub use covering::covers;
+pub use covering::{covers, is_same, lists};
 pub use directive::{BadEntry, DirectiveList, Entry, Mark, MarkKind};
 pub use fixing::{Applied, apply};
 pub use message::{FileResult, Message, UnitFix};

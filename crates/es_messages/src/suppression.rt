@@ -98,7 +98,8 @@ fn split(
 /// A report is suppressed where a mark covers it: one for its line that names its rule, or the last of the
 /// other marks that name its rule and don't start behind it, if that is `Disable`. A mark that isn't `Enable`
 /// is of no use where it covers no report; one that lists rules, for each of them of which it covers none. It
-/// takes time in the number of reports times that of marks and their rules, and the square of a mark's rules.
+/// takes time in the number of reports times that of marks, and of the rules of those that reach them, and the
+/// square of a mark's rules.
 pub fn suppress(
     alloc: Global,
     source: &Source,
