@@ -1,5 +1,5 @@
 -- What a run makes of its kits.
-use Rattle.std.specs.Prelude.{◌≡◌, ℕ, ◌⊎◌, List, [], ◌∷◌, map}
+use Rattle.std.specs.Prelude.{◌≡◌, ℕ, ◌≤◌, List, [], ◌∷◌, map}
 use Rattle.es_host.specs.Kits.{KitOf, meanings_of}
 use Rattle.es_host.specs.Meanings.{Meaning}
 use Rattle.es_lint.specs.Results.{more}
@@ -22,6 +22,12 @@ abbrev pub first_heard : ℕ → List ℕ → List ℕ
 first_heard times [] = []
 first_heard times (first ∷ rest) = more times first ∷ rest
 
--- the first kit listened once, or none did
-abbrev pub ListensAtMostOnce : List ℕ → List ℕ → Type 0
-ListensAtMostOnce before now = (now ≡ before) ⊎ (now ≡ first_heard 1 before)
+-- the first kit listened so often at most, and no other did
+pub record HeardAtMost (most : ℕ) (before now : List ℕ) : Type 0 where
+  pub times : ℕ
+  pub few : times ≤ most
+  pub first : now ≡ first_heard times before
+
+-- ten passes of fixes at most, and one more linting
+abbrev pub most_lintings : ℕ
+most_lintings = 11

@@ -3,7 +3,7 @@ use Rattle.std.specs.Prelude.{ℕ, List, ◌++◌, codes, encode_utf8_all}
 use Rattle.es_run.specs.declared.status.Status.{Status}
 use Rattle.es_run.specs.declared.status.Status.TheVariants.{Clean, Problems, Stopped, NoMemory}
 use Rattle.es_run.specs.declared.status.StopCause.{StopCause}
-use Rattle.es_run.specs.declared.status.StopCause.TheVariants.{BadWords, NoFile, TooLong, CannotRead, CannotPrint}
+use Rattle.es_run.specs.declared.status.StopCause.TheVariants.{BadWords, NoFile, TooLong, CannotRead, CannotWrite, CannotPrint}
 use Rattle.es_format.specs.Stylish.{line_end}
 
 abbrev pub status_code_of : Status → ℕ
@@ -22,4 +22,5 @@ fault_line BadWords = codes "esl: bad arguments" ++ line_end
 fault_line (NoFile name) = line_about (codes "esl: no such file: ") name
 fault_line (TooLong name) = line_about (codes "esl: too long: ") name
 fault_line (CannotRead name) = line_about (codes "esl: cannot read: ") name
+fault_line (CannotWrite name) = line_about (codes "esl: cannot write: ") name
 fault_line CannotPrint = codes "esl: cannot print" ++ line_end

@@ -1,16 +1,34 @@
 //! The arguments of the program.
-ghost use Rattle.std.specs.Prelude.{◌≡◌, ⊤, MatchOption, map, string_bytes};
-ghost use Rattle.es_run.specs.Arguments.{IsFileName, Names, NoName};
+ghost use Rattle.std.specs.Prelude.{◌≡◌, ◌≢◌, MatchOption, false, map, string_bytes, true};
+ghost use Rattle.es_run.specs.Arguments.{Ask, AskNothing, IsFileName, fix};
 
-/// The name of the file to lint: the one argument, which isn't empty and doesn't begin with `-`.
-pub fn name_of(arguments: &[String]) -> Option<&str>
-    ensures { MatchOption result (NoName (map string_bytes arguments.now))
-        (λ name. Names (map string_bytes arguments.now) name.now) }
+use es_settings::Mode;
+
+/// What the arguments ask for, and the name of the file: optionally `--fix`, and then one that isn't
+/// empty and doesn't begin with `-`.
+pub fn asked_of(arguments: &[String]) -> Option<(Mode, &str)>
+    ensures { MatchOption result (AskNothing (map string_bytes arguments.now))
+        (λ asked. Ask (map string_bytes arguments.now) asked.0 asked.1.now) }
 {
     match arguments {
-        [argument] => file_name(argument.as_str()),
+        [argument] => Some((Mode::Report, file_name(argument.as_str())?)),
+        [option, argument] => {
+            if is_fix(option.as_str()) {
+                Some((Mode::FixAll, file_name(argument.as_str())?))
+            } else {
+                None
+            }
+        }
         _ => None,
     }
+}
+
+/// Whether the argument asks for fixes.
+fn is_fix(argument: &str) -> bool
+    ensures asks { result ≡ true → argument.now ≡ fix }
+    ensures other { result ≡ false → argument.now ≢ fix }
+{
+    argument == "--fix"
 }
 
 /// The argument, where it can be a file's name.

@@ -3,10 +3,12 @@
 #![tactic(auto)]
 
 mod arguments;
+mod ending;
 mod report;
 mod runner;
 mod settings;
 mod status;
+mod stopping;
 
 pub use runner::run;
 pub use status::{Status, StopCause, status_code};

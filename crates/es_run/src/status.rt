@@ -19,7 +19,7 @@ pub enum Status {
 /// Why a run stopped.
 #[derive(Debug, Drop)]
 pub enum StopCause {
-    /// The arguments aren't one file's name.
+    /// The arguments aren't one file's name, with `--fix` in front or without.
     BadWords,
     /// No file has this name.
     NoFile { name: Txt },
@@ -27,6 +27,8 @@ pub enum StopCause {
     TooLong { name: Txt },
     /// The file couldn't be read.
     CannotRead { name: Txt },
+    /// The file couldn't be written: it holds what it held, or a first part of its text after fixes.
+    CannotWrite { name: Txt },
     /// The report couldn't be printed.
     CannotPrint,
 }

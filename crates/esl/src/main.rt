@@ -14,27 +14,19 @@ use es_rules_plain::{
     NoUnsafeNegation, Semi, ValidTypeof,
 };
 use es_run::{Status, StopCause};
-use es_text::NoMemory;
+use es_text::{NoMemory, Steps};
 use std::io::ErrorKind;
+use std::marker::Brand;
 use std::process::ExitCode;
+use std::sync::ledger::{Blank, Ledger};
 use std::{env, io};
 
 #[cfg(test)]
+mod config_tests;
+#[cfg(test)]
 mod draws;
 #[cfg(test)]
-mod plain_texts;
-#[cfg(test)]
-mod rule_tests;
-#[cfg(test)]
-mod scope_rule_tests;
-#[cfg(test)]
-mod scope_rule_texts;
-#[cfg(test)]
-mod scope_tests;
-#[cfg(test)]
-mod syntax_tests;
-#[cfg(test)]
-mod syntax_texts;
+mod fix_tests;
 #[cfg(test)]
 mod tests;
 #[cfg(test)]
@@ -73,12 +65,28 @@ fn lint(rt: &HostRuntime, arguments: &[String]) -> Result<Status, NoMemory> {
     run_over(rt, arguments, rules)
 }
 
-/// Makes the kit of these rules, the files and the streams, and runs.
+/// Runs the rules, on a count of steps of its own.
 fn run_over<R: Rule>(
     rt: &HostRuntime,
     arguments: &[String],
     rules: Vec<R>,
 ) -> Result<Status, NoMemory>
+    requires few { length rules.items < 2 ^ 32 }
+    requires options { All (λ rule. (R.meaning rule).verdict [] ≡ Fine) rules.items }
+{
+    counted_run::<R, Brand>(rt, arguments, rules, Blank::new(1))
+}
+
+/// Makes the kit of these rules, the files and the streams, and runs.
+fn counted_run<R: Rule, L: Ledger>(
+    rt: &HostRuntime,
+    arguments: &[String],
+    rules: Vec<R>,
+    blank: Blank,
+) -> Result<Status, NoMemory>
+    requires name { blank.name ≡ L.name }
+    requires parts { blank.parts ≡ L.parts }
+    requires some { 0 < blank.parts }
     requires few { length rules.items < 2 ^ 32 }
     requires options { All (λ rule. (R.meaning rule).verdict [] ≡ Fine) rules.items }
 {
@@ -88,7 +96,10 @@ fn run_over<R: Rule>(
     let mut files = RealFiles::new(rt);
     let mut out = RealOut::new(rt);
     let mut err = RealErr::new(rt.stderr());
-    Ok(es_run::run(alloc, arguments, &mut kits, &mut files, &mut out, &mut err))
+    let mut steps = Steps::<L>::new(blank);
+    Ok(es_run::run(
+        alloc, arguments, &mut kits, &mut files, &mut out, &mut err, &mut steps,
+    ))
 }
 
 /// The arguments, without the program's own name.

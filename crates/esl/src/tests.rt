@@ -8,35 +8,62 @@ use es_files::{MemoryFiles, MemorySink, Sink, SinkFault, SureSink};
 use es_host::{EachFile, EachNode, Kit, Rule};
 use es_rules_plain::{EolLast, NoDebugger};
 use es_run::{Status, run, status_code};
+use es_text::Steps;
 use std::alloc::Global;
+use std::marker::Brand;
 use std::process::Abort;
 use std::sync::Arc;
 use std::sync::atomic::{AtomicU64, Ordering};
+use std::sync::ledger::{Blank, Ledger};
 use std::test::Fail;
 
 /// A run over files in memory: the status, what it printed, what it told, and how often its kit
 /// listened.
 #[derive(Drop)]
-struct Ran {
+pub(crate) struct Ran {
     status: Status,
     out: MemorySink,
     err: MemorySink,
     lints: u64,
 }
 
-/// The arguments that are this name alone.
-fn name_alone(alloc: Global, name: &str) -> Result<Vec<String>, Fail> {
+/// The arguments, each in memory of its own.
+pub(crate) fn arguments_of(alloc: Global, words: &[&str]) -> Result<Vec<String>, Fail> {
     let mut arguments = Vec::new(alloc);
-    arguments.push(String::from_str(alloc, name)?)?;
+    for word in words {
+        arguments.push(String::from_str(alloc, word)?)?;
+    }
     Ok(arguments)
 }
 
-/// What a run over the file of this name answers.
-fn status_of<R: Rule, O: Sink, E: Sink>(
+/// What a run with these arguments answers, on a count of steps of its own.
+fn counted_run<R: Rule, O: Sink, E: Sink, L: Ledger>(
     alloc: Global,
+    arguments: &[String],
     kits: &mut Vec<Kit<R>>,
     files: &mut MemoryFiles,
-    name: &str,
+    out: &mut O,
+    err: &mut E,
+    blank: Blank,
+) -> Status
+    requires name { blank.name ≡ L.name }
+    requires parts { blank.parts ≡ L.parts }
+    requires some { 0 < blank.parts }
+    requires kits { 1 ≤ length kits.old.items }
+    requires options { All (NeedsNoOptions R.meaning) kits.old.items }
+    ensures kits { length kits.new.items ≡ length kits.old.items }
+    ensures options { All (NeedsNoOptions R.meaning) kits.new.items }
+{
+    let mut steps = Steps::<L>::new(blank);
+    run(alloc, arguments, kits, files, out, err, &mut steps)
+}
+
+/// What a run with these arguments answers.
+pub(crate) fn status_of<R: Rule, O: Sink, E: Sink>(
+    alloc: Global,
+    words: &[&str],
+    kits: &mut Vec<Kit<R>>,
+    files: &mut MemoryFiles,
     out: &mut O,
     err: &mut E,
 ) -> Result<Status, Fail>
@@ -45,17 +72,18 @@ fn status_of<R: Rule, O: Sink, E: Sink>(
     ensures kits { length kits.new.items ≡ length kits.old.items }
     ensures options { All (NeedsNoOptions R.meaning) kits.new.items }
 {
-    let arguments = name_alone(alloc, name)?;
-    Ok(run(alloc, arguments.as_slice(), kits, files, out, err))
+    let arguments = arguments_of(alloc, words)?;
+    let blank = Blank::new(1);
+    Ok(counted_run::<R, O, E, Brand>(alloc, arguments.as_slice(), kits, files, out, err, blank))
 }
 
-/// Runs the rules over the file of this name. The output takes the first `left` bytes of its first
-/// call, which then fails.
-fn run_over<R: Rule>(
+/// Runs the rules with these arguments. The output takes the first `left` bytes of its first call, which
+/// then fails.
+pub(crate) fn run_over<R: Rule>(
     alloc: Global,
+    words: &[&str],
     rules: Vec<R>,
     files: &mut MemoryFiles,
-    name: &str,
     left: Option<u64>,
 ) -> Result<Ran, Fail>
     requires few { length rules.items < 2 ^ 32 }
@@ -68,7 +96,7 @@ fn run_over<R: Rule>(
     if let Some(left) = left {
         out.fail(alloc, 1, left)?;
     }
-    let status = status_of(alloc, &mut kits, files, name, &mut out, &mut err)?;
+    let status = status_of(alloc, words, &mut kits, files, &mut out, &mut err)?;
     let lints = kits[0].lints();
     Ok(Ran {
         status,
@@ -88,14 +116,14 @@ fn plain_rules(alloc: Global) -> Result<Vec<EachNode<NoDebugger>>, Fail>
 }
 
 /// Files in memory, of which this one holds the text.
-fn files_of(alloc: Global, name: &str, text: &str) -> Result<MemoryFiles, Fail> {
+pub(crate) fn files_of(alloc: Global, name: &str, text: &[u8]) -> Result<MemoryFiles, Fail> {
     let mut files = MemoryFiles::new(alloc)?;
-    files.hold(alloc, name, text.as_bytes())?;
+    files.hold(alloc, name, text)?;
     Ok(files)
 }
 
 /// Asserts that the run ended with this status, printed this text, and told this line.
-fn expect(rt: &impl Abort, ran: &Ran, status: u8, out: &str, err: &str) {
+pub(crate) fn expect(rt: &impl Abort, ran: &Ran, status: u8, out: &str, err: &str) {
     assert_eq!(rt; status_code(&ran.status), status);
     assert_eq!(rt; ran.out.got(), out.as_bytes());
     assert_eq!(rt; ran.err.got(), err.as_bytes());
@@ -230,9 +258,9 @@ a.js
 #[test]
 fn reports(rt: HostRuntime) -> Result<(), Fail> {
     for case in &CASES {
-        let mut files = files_of(rt.alloc(), case.name, case.text)?;
+        let mut files = files_of(rt.alloc(), case.name, case.text.as_bytes())?;
         let rules = plain_rules(rt.alloc())?;
-        let ran = run_over(rt.alloc(), rules, &mut files, case.name, None)?;
+        let ran = run_over(rt.alloc(), &[case.name], rules, &mut files, None)?;
         expect(&rt, &ran, case.status, case.report, "");
         assert_eq!(rt; ran.lints, u64::from(case.heard), "{}", case.text);
     }
@@ -256,8 +284,8 @@ fn reports_of_two_rules_stand_by_their_places(rt: HostRuntime) -> Result<(), Fai
     let mut rules: Vec<Box<dyn Rule + Send>> = Vec::new(alloc);
     rules.push(Box::new(alloc, EachNode::new(alloc, WatchEmpty))?)?;
     rules.push(Box::new(alloc, EachNode::new(alloc, WatchNames { refusals: 0 }))?)?;
-    let mut files = files_of(alloc, "é.js", "a;;\n\n\n\n\n\n\n\n\n b")?;
-    let ran = run_over(alloc, rules, &mut files, "é.js", None)?;
+    let mut files = files_of(alloc, "é.js", b"a;;\n\n\n\n\n\n\n\n\n b")?;
+    let ran = run_over(alloc, &["é.js"], rules, &mut files, None)?;
     expect(&rt, &ran, 1, TWO_RULES, "");
     Ok(())
 }
@@ -275,8 +303,8 @@ fn a_rule_of_files(rt: HostRuntime) -> Result<(), Fail> {
     let alloc = rt.alloc();
     let mut rules = Vec::new(alloc);
     rules.push(EachFile::new(EolLast))?;
-    let mut files = files_of(alloc, "a.js", "a;;")?;
-    let ran = run_over(alloc, rules, &mut files, "a.js", None)?;
+    let mut files = files_of(alloc, "a.js", b"a;;")?;
+    let ran = run_over(alloc, &["a.js"], rules, &mut files, None)?;
     expect(&rt, &ran, 1, NO_NEWLINE, "");
     Ok(())
 }
@@ -289,10 +317,10 @@ fn a_kit_listens_again(rt: HostRuntime) -> Result<(), Fail> {
     rules.push(Box::new(alloc, EachNode::new(alloc, WatchNames { refusals: 1 }))?)?;
     let mut kits = Vec::new(alloc);
     kits.push(Kit::new(rules))?;
-    let mut files = files_of(alloc, "a.js", "a;\n")?;
+    let mut files = files_of(alloc, "a.js", b"a;\n")?;
     let (mut out, mut err) = (SureSink::new(alloc)?, SureSink::new(alloc)?);
-    let first = status_of(alloc, &mut kits, &mut files, "a.js", &mut out, &mut err)?;
-    let second = status_of(alloc, &mut kits, &mut files, "a.js", &mut out, &mut err)?;
+    let first = status_of(alloc, &["a.js"], &mut kits, &mut files, &mut out, &mut err)?;
+    let second = status_of(alloc, &["a.js"], &mut kits, &mut files, &mut out, &mut err)?;
     assert_eq!(rt; status_code(&first), 3);
     assert_eq!(rt; status_code(&second), 1);
     assert_eq!(rt; kits[0].lints(), 2);
@@ -309,8 +337,8 @@ fn events_are_told_one_by_one(rt: HostRuntime) -> Result<(), Fail> {
     let mut rules = Vec::new(alloc);
     rules.push(Draws::new(alloc, &next, false, &wrong)?)?;
     rules.push(Draws::new(alloc, &next, true, &wrong)?)?;
-    let mut files = files_of(alloc, "a.js", "a\n++b\n")?;
-    let ran = run_over(alloc, rules, &mut files, "a.js", None)?;
+    let mut files = files_of(alloc, "a.js", b"a\n++b\n")?;
+    let ran = run_over(alloc, &["a.js"], rules, &mut files, None)?;
     expect(&rt, &ran, 0, "", "");
     assert_eq!(rt; next.load(Ordering::SeqCst), 24);
     assert_eq!(rt; wrong.load(Ordering::SeqCst), 0);
@@ -319,9 +347,9 @@ fn events_are_told_one_by_one(rt: HostRuntime) -> Result<(), Fail> {
 
 #[test]
 fn a_kit_without_rules_finds_nothing(rt: HostRuntime) -> Result<(), Fail> {
-    let mut files = files_of(rt.alloc(), "a.js", "debugger;")?;
+    let mut files = files_of(rt.alloc(), "a.js", b"debugger;")?;
     let rules: Vec<EachNode<NoDebugger>> = Vec::new(rt.alloc());
-    let ran = run_over(rt.alloc(), rules, &mut files, "a.js", None)?;
+    let ran = run_over(rt.alloc(), &["a.js"], rules, &mut files, None)?;
     expect(&rt, &ran, 0, "", "");
     assert_eq!(rt; ran.lints, 1);
     Ok(())
@@ -329,13 +357,13 @@ fn a_kit_without_rules_finds_nothing(rt: HostRuntime) -> Result<(), Fail> {
 
 #[test]
 fn a_failed_read_stops_a_run(rt: HostRuntime) -> Result<(), Fail> {
-    let mut files = files_of(rt.alloc(), "a.js", "debugger;")?;
+    let mut files = files_of(rt.alloc(), "a.js", b"debugger;")?;
     files.fail(rt.alloc(), false, 1, 0)?;
     let ran = run_over(
         rt.alloc(),
+        &["a.js"],
         plain_rules(rt.alloc())?,
         &mut files,
-        "a.js",
         None,
     )?;
     expect(&rt, &ran, 2, "", "esl: cannot read: a.js\n");
@@ -347,12 +375,12 @@ fn a_failed_read_stops_a_run(rt: HostRuntime) -> Result<(), Fail> {
 #[test]
 fn a_failed_print_stops_a_run(rt: HostRuntime) -> Result<(), Fail> {
     for (text, printed) in [("debugger;", "\na."), ("a;\n", "")] {
-        let mut files = files_of(rt.alloc(), "a.js", text)?;
+        let mut files = files_of(rt.alloc(), "a.js", text.as_bytes())?;
         let ran = run_over(
             rt.alloc(),
+            &["a.js"],
             plain_rules(rt.alloc())?,
             &mut files,
-            "a.js",
             Some(3),
         )?;
         expect(&rt, &ran, 2, printed, "esl: cannot print\n");
@@ -376,15 +404,15 @@ impl Sink for Poor {
 
 #[test]
 fn a_run_tells_that_it_is_out_of_memory(rt: HostRuntime) -> Result<(), Fail> {
-    let mut files = files_of(rt.alloc(), "a.js", "a;\n")?;
+    let mut files = files_of(rt.alloc(), "a.js", b"a;\n")?;
     let mut kits = Vec::new(rt.alloc());
     kits.push(Kit::new(plain_rules(rt.alloc())?))?;
     let (mut out, mut err) = (Poor, MemorySink::new(rt.alloc())?);
     let status = status_of(
         rt.alloc(),
+        &["a.js"],
         &mut kits,
         &mut files,
-        "a.js",
         &mut out,
         &mut err,
     )?;
@@ -396,7 +424,7 @@ fn a_run_tells_that_it_is_out_of_memory(rt: HostRuntime) -> Result<(), Fail> {
 /// What the program does with a name that no file has.
 #[test]
 fn a_missing_file_stops_the_program(rt: HostRuntime) -> Result<(), Fail> {
-    let arguments = name_alone(rt.alloc(), "missing/a.js")?;
+    let arguments = arguments_of(rt.alloc(), &["missing/a.js"])?;
     let status = crate::lint(&rt, arguments.as_slice())?;
     assert_eq!(rt; status_code(&status), 2);
     Ok(())

@@ -1,0 +1,256 @@
+//! Runs with `--fix` over files in memory. What is left and printed is worked out by hand.
+ghost use Rattle.std.specs.Prelude.{◌≡◌, ◌<◌, ◌^◌, All, [], length, IfOk};
+ghost use Rattle.es_settings.specs.declared.verdict.Verdict.TheVariants.{Fine};
+
+use crate::tests::{Ran, expect, files_of, run_over, status_of};
+use crate::watch::{ToArray, ToThis};
+use es_files::{MemoryFiles, MemorySink};
+use es_host::{EachFile, EachNode, Kit, Rule};
+use es_rules_plain::{EolLast, NoDebugger, NoExtraSemi, NoTrailingSpaces, Semi};
+use es_run::status_code;
+use std::alloc::Global;
+use std::process::Abort;
+use std::test::Fail;
+
+/// The bytes of `a.js`, what it holds after a run with `--fix`, what is printed of it then, and the status.
+struct Case {
+    bytes: &'static [u8],
+    fixed: &'static [u8],
+    report: &'static str,
+    status: u8,
+}
+
+// Each place has one fix a pass: the second one there waits for the next pass. A byte order mark stands in
+// front again. What isn't UTF-8 is written as U+FFFD, but only where a fix changes the text. The last case
+// has ten passes, after which the text is what it was, and is linted once more.
+static CASES: [Case; 11] = [
+    Case {
+        bytes: b"a;;  \n",
+        fixed: b"a;\n",
+        report: "",
+        status: 0,
+    },
+    Case {
+        bytes: b"debugger",
+        fixed: b"debugger;\n",
+        report: "
+a.js
+  1:1  error  Unexpected 'debugger' statement.  no-debugger
+
+✖ 1 problem (1 error, 0 warnings)
+",
+        status: 1,
+    },
+    Case {
+        bytes: b"\xef\xbb\xbfa",
+        fixed: b"\xef\xbb\xbfa;\n",
+        report: "",
+        status: 0,
+    },
+    Case {
+        bytes: b"a;  \r\n",
+        fixed: b"a;\r\n",
+        report: "",
+        status: 0,
+    },
+    Case {
+        bytes: b"a\r\nb\r\n",
+        fixed: b"a;\r\nb;\r\n",
+        report: "",
+        status: 0,
+    },
+    Case {
+        bytes: b"'\xf0\x9f\x98\x80'; debugger;;",
+        fixed: b"'\xf0\x9f\x98\x80'; debugger;\n",
+        report: "
+a.js
+  1:7  error  Unexpected 'debugger' statement.  no-debugger
+
+✖ 1 problem (1 error, 0 warnings)
+",
+        status: 1,
+    },
+    Case {
+        bytes: b"'\xff\xf0\x9f\x98\x80'",
+        fixed: b"'\xef\xbf\xbd\xf0\x9f\x98\x80';\n",
+        report: "",
+        status: 0,
+    },
+    Case {
+        bytes: b"'\xff';\n",
+        fixed: b"'\xff';\n",
+        report: "",
+        status: 0,
+    },
+    Case {
+        bytes: b"// eslint-disable-next-line semi\na\nb // eslint-disable-line\n",
+        fixed: b"// eslint-disable-next-line semi\na\nb // eslint-disable-line\n",
+        report: "",
+        status: 0,
+    },
+    Case {
+        bytes: b"a b;\n",
+        fixed: b"a b;\n",
+        report: "
+a.js
+  1:1  error  Parsing error: unreadable item.
+
+✖ 1 problem (1 error, 0 warnings)
+",
+        status: 1,
+    },
+    Case {
+        bytes: b"this;\n",
+        fixed: b"this;\n",
+        report: "
+a.js
+  1:1  error  no  this
+
+✖ 1 problem (1 error, 0 warnings)
+  1 error and 0 warnings potentially fixable with the `--fix` option.
+",
+        status: 1,
+    },
+];
+
+/// Asserts what a run with `--fix` leaves and prints of the file of each case.
+fn expect_fixed<R: Rule>(
+    rt: &impl Abort,
+    alloc: Global,
+    rules: Vec<R>,
+    cases: &[Case],
+) -> Result<(), Fail>
+    requires few { length rules.items < 2 ^ 32 }
+    requires options { All (λ rule. (R.meaning rule).verdict [] ≡ Fine) rules.items }
+{
+    let mut kits = Vec::new(alloc);
+    kits.push(Kit::new(rules))?;
+    for case in cases {
+        let mut files = files_of(alloc, "a.js", case.bytes)?;
+        let (mut out, mut err) = (MemorySink::new(alloc)?, MemorySink::new(alloc)?);
+        let words = ["--fix", "a.js"];
+        let status = status_of(alloc, &words, &mut kits, &mut files, &mut out, &mut err)?;
+        assert_eq!(rt; files.held("a.js"), Some(case.fixed));
+        assert_eq!(rt; out.got(), case.report.as_bytes());
+        assert_eq!(rt; (status_code(&status), err.got().len()), (case.status, 0));
+    }
+    Ok(())
+}
+
+#[test]
+fn files_are_fixed(rt: HostRuntime) -> Result<(), Fail> {
+    let alloc = rt.alloc();
+    let mut rules: Vec<Box<dyn Rule + Send>> = Vec::new(alloc);
+    rules.push(Box::new(alloc, EachNode::new(alloc, Semi))?)?;
+    rules.push(Box::new(alloc, EachNode::new(alloc, NoExtraSemi))?)?;
+    rules.push(Box::new(alloc, EachFile::new(EolLast))?)?;
+    rules.push(Box::new(alloc, EachFile::new(NoTrailingSpaces))?)?;
+    rules.push(Box::new(alloc, EachNode::new(alloc, NoDebugger))?)?;
+    rules.push(Box::new(alloc, EachNode::new(alloc, ToArray))?)?;
+    rules.push(Box::new(alloc, EachNode::new(alloc, ToThis))?)?;
+    expect_fixed(&rt, alloc, rules, &CASES)
+}
+
+/// A kit of one rule, which has a fix.
+fn semi_alone(alloc: Global) -> Result<Vec<EachNode<Semi>>, Fail>
+    ensures { IfOk result (λ rules. length rules.items ≡ 1) }
+{
+    let mut rules = Vec::new(alloc);
+    rules.push(EachNode::new(alloc, Semi))?;
+    Ok(rules)
+}
+
+/// What a run of that kit does with `a.js` and these arguments.
+fn run_alone(
+    alloc: Global,
+    words: &[&str],
+    files: &mut MemoryFiles,
+    left: Option<u64>,
+) -> Result<Ran, Fail> {
+    run_over(alloc, words, semi_alone(alloc)?, files, left)
+}
+
+// How many bytes a failed write leaves, and what the file holds then.
+static LEFT: [(u64, &[u8]); 5] = [(0, b""), (1, b"a"), (2, b"a;"), (3, b"a;\n"), (9, b"a;\n")];
+
+/// A failed write stops the run: nothing is printed, and no other write is tried.
+#[test]
+fn a_failed_write_stops_a_run(rt: HostRuntime) -> Result<(), Fail> {
+    let alloc = rt.alloc();
+    for &(left, held) in &LEFT {
+        let mut files = files_of(alloc, "a.js", b"a\n")?;
+        files.fail(alloc, true, 1, left)?;
+        let ran = run_alone(alloc, &["--fix", "a.js"], &mut files, None)?;
+        expect(&rt, &ran, 2, "", "esl: cannot write: a.js\n");
+        assert_eq!(rt; files.held("a.js"), Some(held));
+    }
+    Ok(())
+}
+
+// Arguments and what `a.js` holds; the first write would fail. Without `--fix`, or where no fix changes the
+// text, none is tried.
+static UNWRITTEN: [(&[&str], &[u8], &str, u8); 2] = [
+    (
+        &["a.js"],
+        b"a\n",
+        "
+a.js
+  1:2  error  Missing semicolon.  semi
+
+✖ 1 problem (1 error, 0 warnings)
+  1 error and 0 warnings potentially fixable with the `--fix` option.
+",
+        1,
+    ),
+    (&["--fix", "a.js"], b"a;\n", "", 0),
+];
+
+#[test]
+fn only_what_changes_is_written(rt: HostRuntime) -> Result<(), Fail> {
+    let alloc = rt.alloc();
+    for &(words, bytes, report, status) in &UNWRITTEN {
+        let mut files = files_of(alloc, "a.js", bytes)?;
+        files.fail(alloc, true, 1, 0)?;
+        let ran = run_alone(alloc, words, &mut files, None)?;
+        expect(&rt, &ran, status, report, "");
+        assert_eq!(rt; files.held("a.js"), Some(bytes));
+    }
+    Ok(())
+}
+
+/// The file is written before the report is printed.
+#[test]
+fn a_failed_print_comes_after_the_write(rt: HostRuntime) -> Result<(), Fail> {
+    let alloc = rt.alloc();
+    let mut files = files_of(alloc, "a.js", b"a\n")?;
+    let ran = run_alone(alloc, &["--fix", "a.js"], &mut files, Some(0))?;
+    expect(&rt, &ran, 2, "", "esl: cannot print\n");
+    assert_eq!(rt; files.held("a.js"), Some(b"a;\n".as_slice()));
+    Ok(())
+}
+
+static BAD: [&[&str]; 11] = [
+    &[],
+    &[""],
+    &["-"],
+    &["--fix"],
+    &["--fix", ""],
+    &["--fix", "-a.js"],
+    &["--fix", "--fix"],
+    &["--fix", "a.js", "a.js"],
+    &["a.js", "--fix"],
+    &["a.js", "a.js"],
+    &["--fixes", "a.js"],
+];
+
+#[test]
+fn other_arguments_are_bad(rt: HostRuntime) -> Result<(), Fail> {
+    let alloc = rt.alloc();
+    for words in &BAD {
+        let mut files = files_of(alloc, "a.js", b"a\n")?;
+        let ran = run_alone(alloc, words, &mut files, None)?;
+        expect(&rt, &ran, 2, "", "esl: bad arguments\n");
+        assert_eq!(rt; files.held("a.js"), Some(b"a\n".as_slice()));
+    }
+    Ok(())
+}
