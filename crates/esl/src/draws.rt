@@ -1,8 +1,8 @@
 //! A rule for tests that draws a number at each event.
 
-use es_settings::Verdict;
 use es_host::{Ctx, Rule, no_options};
 use es_selectors::{Selector, read};
+use es_settings::Verdict;
 use es_text::{Finding, NoMemory};
 use serde_json::Value;
 use std::alloc::Global;

@@ -1,9 +1,9 @@
 //! What the rules over scopes say.
 use crate::rule_tests::{config_of, expect, expect_set};
 use crate::scope_rule_texts::{CONST, GLOBALS, LABELS, UNDEF, VARS};
-use es_settings::{FileConfig, GlobalUse};
 use es_host::EachFile;
 use es_rules_scope::{NoConstAssign, NoUndef, NoUnusedLabels, NoUnusedVars};
+use es_settings::{FileConfig, GlobalUse};
 use es_text::{SourceType, Txt};
 use std::alloc::Global;
 use std::test::Fail;

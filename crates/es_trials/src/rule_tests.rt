@@ -8,7 +8,6 @@ use crate::plain_texts::{
     COND_ASSIGN, DEFAULT_LAST, EMPTY, EQUAL, EQUAL_SMART, EXTRA_SEMI, NEGATION, REFUSED, SPARSE,
     TYPEOF,
 };
-use es_settings::{FileConfig, Known, RuleSetting, Verdict};
 use es_host::{EachNode, FileView, Kit, Rule, listen};
 use es_parser::{ParseFault, parse};
 use es_rules_plain::{
@@ -16,6 +15,7 @@ use es_rules_plain::{
     ValidTypeof,
 };
 use es_scopes::analyse;
+use es_settings::{FileConfig, Known, RuleSetting, Verdict};
 use es_text::{Items, NoMemory, Report, Severity, Source, SourceType, Span, Steps};
 use es_tree::Parsed;
 use serde_json::Value;
