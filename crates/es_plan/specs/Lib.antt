@@ -1,0 +1,5 @@
+pub mod Command
+pub mod Names
+pub mod Numbers
+pub mod Plans
+pub mod Steps
