@@ -14,3 +14,7 @@ is_too_great most text over = grind (arith, rules)
 pub is_none : (most : ℕ) (text : List ℕ) → most < 4294967296 → ((0 < length text) × (digits_value 10 text < 4294967296) → ⊥)
     → None ≡ number_of most text
 is_none most text small isnt = grind (arith, rules)
+
+-- the number isn't more than `most`
+pub within : (most : ℕ) (text : List ℕ) (n : ℕ) → number_of most text ≡ Some n → n ≤ most
+within most text n is = grind (arith, rules, is)

@@ -13,12 +13,13 @@ option_named name = record (new_rule name) { long = Some name; action = Some Set
 abbrev pub flag_named : Text → Rule
 flag_named name = record (new_rule name) { long = Some name; action = Some SetTrue }
 
--- the letters of `-c` and `-f`
-abbrev pub small_c : ℕ
-small_c = 99
+-- the letter `c`
+abbrev pub letter_c : ℕ
+letter_c = 99
 
-abbrev pub small_f : ℕ
-small_f = 102
+-- the letter `f`
+abbrev pub letter_f : ℕ
+letter_f = 102
 
 -- the same with a letter, as `-n`
 abbrev pub with_letter : ℕ → Rule → Rule
@@ -37,8 +38,8 @@ bare = record { top = record (new_app (codes "esl")).top { no_binary_name = true
 
 unfoldable pub command : App
 command = with_rule (with_rule (with_rule (with_rule (with_rule (with_rule (with_rule (with_rule bare
-    (with_letter small_c (option_named (codes "config"))))
-    (with_letter small_f (option_named (codes "format"))))
+    (with_letter letter_c (option_named (codes "config"))))
+    (with_letter letter_f (option_named (codes "format"))))
     (flag_named (codes "fix")))
     (flag_named (codes "quiet")))
     (option_named (codes "max-warnings")))

@@ -1,10 +1,10 @@
-ghost use Rattle.std.specs.Prelude.{◌≡◌, ◌≢◌, ◌⊎◌, ℕ, [], Ok, Err, IfOk, IfErr, map, string_bytes};
+ghost use Rattle.std.specs.Prelude.{◌≡◌, ◌≢◌, ◌≤◌, ◌⊎◌, ℕ, [], Ok, Err, IfOk, IfErr, map, string_bytes};
 ghost use Rattle.clap.specs.Faults.{fault_of};
 ghost use Rattle.clap.specs.Simple.{matches_of};
 ghost use Rattle.clap.specs.Matches.{found_of};
 ghost use Rattle.clap.specs.Walk.{rows_of};
 ghost use Rattle.es_plan.specs.Command.{command};
-ghost use Rattle.es_plan.specs.Plans.{lint_plan, plan_of};
+ghost use Rattle.es_plan.specs.Plans.{MOST_LINES, lint_plan, plan_of};
 ghost use Rattle.es_plan.specs.Steps.{asked_by, to_generate, to_lint};
 
 use crate::command::command;
@@ -54,6 +54,7 @@ fn to_lint(alloc: Global, found: &ArgMatches) -> Result<Plan, PlanFault>
     ensures value { IfOk result (λ plan. to_lint (rows_of (found_of found.now)) ≡ Ok plan) }
     ensures fault { IfErr result
         (λ fault. (fault ≡ PlanFault.NoMemory) ⊎ (to_lint (rows_of (found_of found.now)) ≡ Err fault)) }
+    ensures lints { (n : ℕ) → result ≢ Ok (Plan.Generate n) }
 {
     let Some(files) = files(found) else {
         return Err(PlanFault::BadWords);
@@ -75,8 +76,10 @@ fn to_lint(alloc: Global, found: &ArgMatches) -> Result<Plan, PlanFault>
 }
 
 /// What the words with `--generate` ask for.
+#[tactic(auto, using(crate::proofs::NumbersLemmas::within))]
 fn to_generate(found: &ArgMatches, number: &str) -> Result<Plan, PlanFault>
-    ensures { result ≡ to_generate (rows_of (found_of found.now)) number.now }
+    ensures value { result ≡ to_generate (rows_of (found_of found.now)) number.now }
+    ensures few { (n : ℕ) → result ≡ Ok (Plan.Generate n) → n ≤ MOST_LINES }
 {
     if !is_bare(found) {
         return Err(PlanFault::BadWords);
@@ -92,6 +95,7 @@ fn to_do(alloc: Global, found: &ArgMatches) -> Result<Plan, PlanFault>
     ensures value { IfOk result (λ plan. asked_by (rows_of (found_of found.now)) ≡ Ok plan) }
     ensures fault { IfErr result
         (λ fault. (fault ≡ PlanFault.NoMemory) ⊎ (asked_by (rows_of (found_of found.now)) ≡ Err fault)) }
+    ensures few { (n : ℕ) → result ≡ Ok (Plan.Generate n) → n ≤ MOST_LINES }
 {
     match value(found, "generate") {
         Some(number) => to_generate(found, number),
@@ -126,7 +130,7 @@ fn taken<'a>(alloc: Global, words: &'a [String]) -> Result<ArgMatches<'a>, PlanF
 ///
 /// `BadWords` comes where `clap` refuses them, a value isn't as listed, a name is empty, there is
 /// neither a name nor `--generate`, or `--generate` stands with anything else. `TooMany` comes where
-/// they are no bad words, and there are more than 10,000 names.
+/// they are no bad words, and there are more than 10,000 names. A text to make has at most 10,000 lines.
 #[tactic(auto, using(crate::proofs::PlansLemmas::taken_words, crate::proofs::PlansLemmas::refused_words))]
 pub fn read_plan(alloc: Global, words: &[String]) -> Result<Plan, PlanFault>
     ensures value { IfOk result (λ plan. plan_of (map string_bytes words.now) ≡ Ok plan) }
@@ -134,6 +138,7 @@ pub fn read_plan(alloc: Global, words: &[String]) -> Result<Plan, PlanFault>
         → plan_of (map string_bytes words.now) ≡ Err PlanFault.BadWords }
     ensures too_many { (n : ℕ) → result ≡ Err (PlanFault.TooMany n)
         → plan_of (map string_bytes words.now) ≡ Err (PlanFault.TooMany n) }
+    ensures few { (n : ℕ) → result ≡ Ok (Plan.Generate n) → n ≤ MOST_LINES }
 {
     match taken(alloc, words) {
         Ok(found) => to_do(alloc, &found),
