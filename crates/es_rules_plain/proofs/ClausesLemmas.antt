@@ -5,7 +5,7 @@ use Rattle.std.specs.List.{flat_map, list_any, range_with_len}
 use Rattle.std.proofs.lemmas.List.Folds.{list_any-append}
 use Rattle.es_text.specs.declared.finding.Finding.{Finding}
 use Rattle.es_host.specs.Files.{File}
-use Rattle.es_rules_plain.specs.NoDuplicateCase.{are_texts, clause_at, has_texts, said_at, stands_before, test_texts, texts_at}
+use Rattle.es_rules_plain.specs.NoDuplicateCase.{are_texts, clause_at, has_texts, said_at, stands_before, test_texts}
 
 range_last : (from count : ℕ) → range_with_len from (count + 1) ≡ range_with_len from count ++ (from + count) ∷ []
 range_last from zero = let same : from ≡ from + 0 = omega arith in ap (λ n. n ∷ []) same

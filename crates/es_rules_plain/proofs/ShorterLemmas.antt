@@ -1,7 +1,6 @@
 -- What follows a part of a selector's text is no longer than the text.
 use Rattle.std.proofs.Common.{◌≡◌, ℕ, ◌<◌, ◌≤◌, ◌+◌, Bool, true, false, List, [], ◌∷◌, length, cond, refl, ap, sym, ◌∙◌, arith}
 use Rattle.std.specs.Prelude.{Option, Some, None, codes, option_and_then, option_map, ◌==◌, unwrap_or}
-use Rattle.std.proofs.lemmas.Bool.Decides.{nat_tests}
 use Rattle.es_text.specs.Characters.{backslash, is_decimal, is_white_space}
 use Rattle.es_text.specs.Rest.{begins, drop_while}
 use Rattle.es_selectors.specs.declared.selector.Atom.{Atom, roll-Atom}
@@ -14,8 +13,8 @@ use Rattle.es_selectors.specs.declared.selector.Condition.TheVariants.{IsThere, 
 use Rattle.es_selectors.specs.declared.word.Nest.{Nest}
 use Rattle.es_selectors.specs.declared.word.Word.{Word}
 use Rattle.es_selectors.specs.declared.word.Word.TheVariants as word
-use Rattle.es_selectors.specs.Lexical.{Read, after, bare, closed, first_of, go_on, if_taken, in_front, is_bare, is_name_part, is_quote, just, just_before, name, number, number_in_parentheses, past_blanks, quoted_from, run_of, value, with_front}
-use Rattle.es_selectors.specs.Spelling.{SpellsNames, begins_atom, bracketed, bracketed_number, bracketed_value, combinator, combinator_or, compared, comparison, condition, descendant, field, field_of, field_or_field_of, inner_field, kind_atom, length_test, more_names, nest_at, nest_word, nth_child, nth_last_child, one_name, plain_atom, plain_word, with_atom, with_condition, with_value, word_among, word_at, words}
+use Rattle.es_selectors.specs.Lexical.{Read, after, bare, closed, go_on, if_taken, in_front, is_bare, is_name_part, is_quote, just, just_before, name, number, number_in_parentheses, past_blanks, quoted_from, run_of, value, with_front}
+use Rattle.es_selectors.specs.Spelling.{SpellsNames, bracketed, bracketed_number, bracketed_value, combinator, combinator_or, compared, comparison, condition, descendant, field, field_of, field_or_field_of, inner_field, kind_atom, length_test, more_names, nest_at, nest_word, nth_child, nth_last_child, one_name, plain_atom, plain_word, with_atom, with_condition, with_value, word_among, word_at, words}
 
 pub some_same : {A : Type 0} {x y : A} → Some x ≡ Some y → x ≡ y
 some_same e = cc

@@ -1,5 +1,5 @@
 -- Steps over the characters of a text in search of white space at the ends of lines.
-use Rattle.std.proofs.Common.{◌≡◌, ℕ, ◌+◌, ◌-◌, ◌<◌, ◌≤◌, Bool, true, false, not, ◌&&◌, List, [], ◌∷◌, ◌++◌, cond, if◌then◌else◌, drop, length, nat_lt, refl, sym, ap, subst, ◌∙◌, arith, append_assoc, append-nil, length-append, encode_utf8, encode_utf8_all, IsUtf8}
+use Rattle.std.proofs.Common.{◌≡◌, ℕ, ◌+◌, ◌-◌, ◌<◌, ◌≤◌, Bool, true, false, not, ◌&&◌, List, [], ◌∷◌, ◌++◌, cond, if◌then◌else◌, length, nat_lt, refl, sym, ap, subst, ◌∙◌, arith, append_assoc, length-append, encode_utf8, encode_utf8_all, IsUtf8}
 use Rattle.std.specs.Char.{len_utf8}
 use Rattle.std.specs.List.{list_all}
 use Rattle.std.specs.Str.{IsCharBoundary, chars}
@@ -9,8 +9,8 @@ use Rattle.std.proofs.lemmas.Bool.Decides.{nat_tests}
 use Rattle.es_text.specs.Characters.{is_line_terminator, is_white_space}
 use Rattle.es_text.specs.declared.span.Span.{Span}
 use Rattle.es_text.specs.Rest.{drop_while}
-use Rattle.es_text.specs.Spans.{LiesIn, PartsLie, is_part}
-use Rattle.es_rules_plain.specs.TrailingSpaces.{blank_between, blank_bytes, blank_from, ends_line, trailing_from}
+use Rattle.es_text.specs.Spans.{PartsLie, is_part}
+use Rattle.es_rules_plain.specs.TrailingSpaces.{blank_between, blank_from, ends_line, trailing_from}
 
 -- what is yet to come, where white space stands from `from` to `at`, before these characters
 abbrev pub left_over : ℕ → ℕ → List ℕ → List Span

@@ -1,5 +1,5 @@
 -- default-case-last: a `default` that isn't the last clause of its switch.
-use Rattle.std.specs.Prelude.{ℕ, ◌-◌, ◌&&◌, Bool, true, not, is_none, nat_eq, List, [], ◌∷◌, None, Option, Some, codes, if◌then◌else◌, unwrap_or}
+use Rattle.std.specs.Prelude.{ℕ, ◌-◌, ◌&&◌, Bool, true, not, is_none, nat_eq, List, [], ◌∷◌, None, Option, Some, codes, if◌then◌else◌}
 use Rattle.std.specs.Option.{option_eq, option_map_or}
 use Rattle.es_tree.specs.declared.kind.TheConstants.{SWITCH_CASE}
 use Rattle.es_tree.specs.Rows.{Row, field_child_of}

@@ -1,6 +1,6 @@
 -- eqeqeq: `==` and `!=`, by the operator's span. With "smart" not where a side is `null` or a `typeof`, nor where
 -- both are literals of one sort. The option "always" is the same as none.
-use Rattle.std.specs.Prelude.{ℕ, Bool, false, true, ◌&&◌, ◌||◌, List, [], ◌∷◌, Option, None, Some, codes, if◌then◌else◌}
+use Rattle.std.specs.Prelude.{ℕ, Bool, false, ◌&&◌, ◌||◌, List, [], ◌∷◌, Option, None, Some, codes, if◌then◌else◌}
 use Rattle.std.specs.Option.{option_map_or}
 use Rattle.std.specs.Str.{bytes_eq}
 use Rattle.serde_json.specs.Data.{Data}
@@ -17,7 +17,6 @@ use Rattle.es_settings.specs.Settings.{Options}
 use Rattle.es_host.specs.Files.{File, rows_in}
 use Rattle.es_host.specs.Nodes.{NodeMeaning, found, of_kind, span_at}
 use Rattle.es_host.specs.TokensAround.{past_parentheses}
-use Rattle.es_rules_plain.specs.declared.literals.Sort.{Sort}
 use Rattle.es_rules_plain.specs.declared.literals.Sort.TheVariants.{Null}
 use Rattle.es_rules_plain.specs.declared.operators.TheConstants.{RIGHT}
 use Rattle.es_rules_plain.specs.Literals.{is_same_sort, some_sort}

@@ -1,6 +1,6 @@
 -- no-duplicate-case: a clause of a switch whose test has the tokens of an earlier clause's test. A token is told by its
 -- text, which no token of another kind has.
-use Rattle.std.specs.Prelude.{ℕ, Bool, false, List, [], ◌∷◌, Option, None, Some, Vec, codes, if◌then◌else◌, map, option_and_then, option_map, slice_range}
+use Rattle.std.specs.Prelude.{ℕ, Bool, false, List, [], ◌∷◌, Option, None, Vec, codes, if◌then◌else◌, map, option_and_then, option_map, slice_range}
 use Rattle.std.specs.List.{flat_map, list_any, range_with_len}
 use Rattle.std.specs.Option.{option_map_or}
 use Rattle.std.specs.Cmp.Lexicographic.{pointwise}

@@ -1,6 +1,6 @@
 -- no-restricted-syntax: each node that a selector of the options matches, once for each selector. Where a selector ends
 -- in `:exit`, the rule hears of a node when the walk leaves it, and says the same.
-use Rattle.std.specs.Prelude.{ℕ, List, [], ◌∷◌, None, codes, map, slice_get}
+use Rattle.std.specs.Prelude.{[], ◌∷◌, None, codes, map, slice_get}
 use Rattle.std.specs.Option.{option_map_or}
 use Rattle.es_host.specs.Files.{rows_in}
 use Rattle.es_host.specs.Nodes.{NodeMeaning, found, span_at}

@@ -1,12 +1,11 @@
 -- no-unsafe-negation: `!a` without parentheses as the left side of `in` or `instanceof`.
-use Rattle.std.specs.Prelude.{ℕ, Bool, false, not, ◌&&◌, List, [], ◌∷◌, Option, None, Some, codes, if◌then◌else◌}
+use Rattle.std.specs.Prelude.{ℕ, Bool, false, ◌&&◌, List, [], ◌∷◌, None, codes, if◌then◌else◌}
 use Rattle.std.specs.Option.{option_map_or}
-use Rattle.es_text.specs.declared.finding.Finding.{Finding}
 use Rattle.es_tree.specs.declared.field.TheConstants.{LEFT}
 use Rattle.es_tree.specs.declared.kind.TheConstants.{BINARY_EXPRESSION, UNARY_EXPRESSION}
 use Rattle.es_tree.specs.Around.{parent, stands_as}
 use Rattle.es_tree.specs.Rows.{Row}
-use Rattle.es_host.specs.Files.{File, rows_in}
+use Rattle.es_host.specs.Files.{rows_in}
 use Rattle.es_host.specs.Nodes.{SimpleNodeMeaning, found, span_at}
 use Rattle.es_host.specs.TokensAround.{is_in_pair}
 use Rattle.es_rules_plain.specs.Operators.{is_binary, is_unary}

@@ -1,6 +1,6 @@
 -- The options of no-restricted-syntax: each is a selector as a text, or an object with a text `selector` and perhaps
 -- a text `message`.
-use Rattle.std.specs.Prelude.{ℕ, zero, suc, ◌==◌, ◌++◌, false, List, [], ◌∷◌, Option, None, Some, codes, if◌then◌else◌, option_and_then, option_map}
+use Rattle.std.specs.Prelude.{ℕ, zero, suc, ◌==◌, ◌++◌, false, List, [], ◌∷◌, Option, None, Some, codes, if◌then◌else◌, option_and_then}
 use Rattle.std.specs.List.{flat_map}
 use Rattle.std.specs.Option.{option_map_or, option_to_list, unwrap_or}
 use Rattle.std.specs.Str.{chars}

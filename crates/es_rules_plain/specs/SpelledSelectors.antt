@@ -5,7 +5,6 @@ use Rattle.std.specs.Option.{option_map_or, option_or}
 use Rattle.std.specs.Str.{bytes_eq}
 use Rattle.es_selectors.specs.declared.selector.Atom.{Atom}
 use Rattle.es_selectors.specs.declared.selector.Chain.{Chain}
-use Rattle.es_selectors.specs.declared.selector.Combinator.{Combinator}
 use Rattle.es_selectors.specs.declared.selector.Link.{Link}
 use Rattle.es_selectors.specs.declared.selector.Spelling.{Spelling}
 use Rattle.es_selectors.specs.declared.word.Nest.{Nest}

@@ -1,14 +1,14 @@
 -- valid-typeof: a Text that a `typeof` is compared with, and that no `typeof` gives. ECMA-262, 13.5.3, table 41.
-use Rattle.std.specs.Prelude.{ℕ, Bool, false, not, is_some, ◌&&◌, ◌||◌, List, [], ◌∷◌, Option, None, Some, codes, if◌then◌else◌}
+use Rattle.std.specs.Prelude.{ℕ, Bool, false, not, is_some, ◌&&◌, ◌||◌, List, [], ◌∷◌, Option, None, codes, if◌then◌else◌}
 use Rattle.std.specs.Option.{option_map_or}
 use Rattle.es_tree.specs.declared.field.TheConstants.{LEFT}
-use Rattle.es_tree.specs.declared.kind.TheConstants.{BINARY_EXPRESSION, LITERAL, UNARY_EXPRESSION}
-use Rattle.es_tree.specs.Around.{child, is_one_of, is_text, parent, words_of}
+use Rattle.es_tree.specs.declared.kind.TheConstants.{LITERAL}
+use Rattle.es_tree.specs.Around.{child, is_text, parent, words_of}
 use Rattle.es_tree.specs.Rows.{Row}
 use Rattle.es_host.specs.Files.{rows_in}
 use Rattle.es_host.specs.Nodes.{SimpleNodeMeaning, found, span_at}
 use Rattle.es_rules_plain.specs.declared.literals.TheConstants.{VALUE}
-use Rattle.es_rules_plain.specs.declared.operators.TheConstants.{BINARY_OPERATOR, RIGHT}
+use Rattle.es_rules_plain.specs.declared.operators.TheConstants.{RIGHT}
 use Rattle.es_rules_plain.specs.Literals.{is_text_literal}
 use Rattle.es_rules_plain.specs.Operators.{is_equality, is_some_typeof}
 

@@ -1,5 +1,5 @@
-use Rattle.std.proofs.Common.{◌≡◌, ap, ◌∙◌}
-use Rattle.std.specs.Prelude.{Some, None, option_map}
+use Rattle.std.proofs.Common.{ap}
+use Rattle.std.specs.Prelude.{option_map}
 use Rattle.es_tree.specs.Around.{joined}
 use Rattle.es_host.specs.Files.{file_of}
 use Rattle.es_rules_plain.specs.NoDuplicateCase.{has, texts_of}

@@ -1,4 +1,4 @@
-use Rattle.std.proofs.Common.{◌≡◌, sym}
+use Rattle.std.proofs.Common.{sym}
 use Rattle.std.specs.Str.{chars}
 use Rattle.es_rules_plain.proofs.SpelledLemmas.{spelled_found, unspelled}
 use Rattle.es_rules_plain.proofs.restriction.spelled.Goals as goal

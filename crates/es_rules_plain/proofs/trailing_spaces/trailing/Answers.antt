@@ -1,4 +1,4 @@
-use Rattle.std.proofs.Common.{◌≡◌, ◌≤◌, ◌+◌, ◌∙◌, ◌++◌, ℕ, IsUtf8, List, [], ◌∷◌, cond, length, true, refl, subst, sym, ap, arith}
+use Rattle.std.proofs.Common.{◌≡◌, ◌≤◌, ◌+◌, ◌∙◌, ◌++◌, IsUtf8, [], cond, length, true, refl, subst, sym, ap, arith}
 use Rattle.std.specs.List.{list_all}
 use Rattle.std.specs.Char.{len_utf8}
 use Rattle.std.specs.Str.{IsCharBoundary, chars}
