@@ -1,22 +1,26 @@
 -- What the clauses of a run say where it made its report, by how it ends.
 use Rattle.std.proofs.Common.{◌≡◌, ℕ, List, [], ◌∷◌, Bool, true, false, refl, ap, sym, subst, ◌∙◌, inl, inr}
-use Rattle.std.specs.Prelude.{◌⊎◌, Option, Some, None, option_map, string_bytes, encode_utf8_all}
-use Rattle.std.specs.Str.{chars}
-use Rattle.std.specs.Option.{ForSome}
+use Rattle.std.proofs.lemmas.List.{map-append}
+use Rattle.std.specs.Prelude.{◌++◌, ◌⊎◌, Ok, Some, encode_utf8_all, map, option_map, string_bytes, take}
 use Rattle.std.specs.FinMap as finite
-use Rattle.es_files.specs.Outside.{FilesFailed, FilesState, Held, SentPart, SinkFailed, SinkState, with_bytes}
-use Rattle.es_run.specs.declared.report.Outcome.{Outcome}
-use Rattle.es_run.specs.declared.report.Write.{Write}
+use Rattle.es_files.specs.Outside.{FilesFailed, FilesState, Held, LeavesPart, SentPart, SinkFailed, SinkState, with_bytes}
+use Rattle.es_plan.specs.declared.plan.Plan.{Plan}
+use Rattle.es_plan.specs.declared.plan.Plan.TheVariants.{Generate, Lint}
+use Rattle.es_plan.specs.Plans.{plan_of}
+use Rattle.es_run.specs.declared.reporting.Made.{Made}
+use Rattle.es_run.specs.declared.reporting.Write.{Write}
 use Rattle.es_run.specs.declared.status.Status.{Status}
 use Rattle.es_run.specs.declared.status.Status.TheVariants.{Clean, Problems, Stopped, NoMemory}
 use Rattle.es_run.specs.declared.status.StopCause.{StopCause}
-use Rattle.es_run.specs.declared.status.StopCause.TheVariants.{BadWords, CannotPrint, CannotWrite}
-use Rattle.es_run.specs.Arguments.{AskNoFixes}
-use Rattle.es_run.specs.Fresh.{Given, IsTheAnswer, Writing, held_after}
-use Rattle.es_run.specs.Runs.{DoesAsFresh, HasNotFailed, HoldsAsFresh, IfCannotRead, IfCannotWrite, IsDone, IsRefused, IsSettled, IsSilent, IsTold, IsUnwritten, IsWritten, LeavesFiles, PrintsPart, WritesPart, sinks}
-use Rattle.es_run.specs.Stages.{Ends, done, not_printed, not_written, no_memory, IsAsked, IsHalf, WritesSome, nothing, everything, half, PrintsSome, World, answer_of, done_status, with_written, world, writes_in}
+use Rattle.es_run.specs.declared.status.StopCause.TheVariants.{CannotPrint, CannotWrite}
+use Rattle.es_run.specs.Courses.{IsMadeFor, answer_of}
+use Rattle.es_run.specs.Ends.{Ends, done, not_printed, not_written, no_memory, World}
+use Rattle.es_run.specs.Ends as ends
+use Rattle.es_run.specs.Fresh.{Given, IsTheAnswer}
+use Rattle.es_run.specs.Reporting.{Writing}
+use Rattle.es_run.specs.Runs.{AskNoFixes, DoesAsFresh, HasNotFailed, HoldsAsFresh, IfCannotRead, IfCannotWrite, IsDone, IsRefused, IsSettled, IsSilent, IsTold, IsUnwritten, IsWritten, LeavesFiles, PrintsPart, PrintsSome, SetNoLimit, WritesPart, held_after, mode_in, sinks}
+use Rattle.es_run.specs.Stages.{IsHalf, WritesSome, first, half, done_status, with_written, write_in}
 use Rattle.es_run.specs.Statuses.{fault_line}
-use Rattle.es_run.proofs.RunsLemmas.{nothing_sent}
 
 -- ---- files after writes
 
@@ -33,226 +37,253 @@ written_unfailed files (write ∷ later) =
     let rest = written_unfailed (with_bytes files write.name write.bytes) later in
     record { faults = rest.faults; failed = rest.failed }
 
+-- a failed write leaves the same, wherever the same was held
+leaves_same : (before before' now : FilesState) (name bytes : List ℕ) → before.holds ≡ before'.holds → LeavesPart before name bytes now →
+    LeavesPart before' name bytes now
+leaves_same before before' now name bytes same (inl kept) = inl (kept ∙ same)
+leaves_same before before' now name bytes same (inr part) =
+    inr (part.0, part.1 ∙ ap (option_map (λ (h : Held). finite.insert h name (take part.0 bytes))) same)
+
 -- ---- statuses
 
 by_clean : (P : Status → Type 0) → P Clean → P Problems → (clean : Bool) → P (done_status clean)
 by_clean P clean problems true = clean
 by_clean P clean problems false = problems
 
-same_cause : {a b : StopCause} → Stopped a ≡ Stopped b → a ≡ b
+pub same_cause : {a b : StopCause} → Stopped a ≡ Stopped b → a ≡ b
 same_cause h = cc
 
-not_stopped : {cause : StopCause} → NoMemory ≡ Stopped cause → ⊥
+pub not_stopped : {cause : StopCause} → NoMemory ≡ Stopped cause → ⊥
 not_stopped h = absurd (cc)
 
--- where the write failed, a fresh run's did
-pub writes_part : (outcome : Outcome) (given : Given) (heard : ℕ) (before now : FilesState) → IsTheAnswer given (answer_of outcome heard) →
-    (write : Write) → outcome.write ≡ Some write → IsHalf write before now → WritesPart given before now
-writes_part outcome given heard before now fresh write some unwritten = record {
-  answer = answer_of outcome heard;
-  fresh = fresh;
-  writes = record { name = string_bytes write.name; bytes = encode_utf8_all write.text };
-  one = ap writes_in some;
-  failed = unwritten.failed;
-  part = unwritten.part;
-}
+-- a status of a run that printed its report is none of one that didn't
+not_done : (clean : Bool) (P : Status → Type 0) → (P Clean → ⊥) → (P Problems → ⊥) → (result : Status) → result ≡ done_status clean →
+    P result → ⊥
+not_done clean P not_clean not_problems result is holds =
+    by_clean (λ status. P status → ⊥) not_clean not_problems clean (subst P is holds)
 
-module _ (outcome : Outcome) (before now : World) (result : Status) where
+none_listed : {X : Type 0} (earlier later : List X) (x : X) → [] ≡ earlier ++ x ∷ later → ⊥
+none_listed [] later x h = absurd (cc)
+none_listed (one ∷ more) later x h = absurd (cc)
+
+module _ (config : List ℕ) (made : Made) (before now : World) (result : Status) where
   -- a fact of each status that such a run can have
   by_end : (P : Status → Type 0) → P Clean → P Problems → P (Stopped CannotPrint) → ((name : List ℕ) → P (Stopped (CannotWrite name))) →
-      P NoMemory → Ends outcome before now result → P result
-  by_end P clean problems print write memory (done is files out err) = subst P (sym is) (by_clean P clean problems outcome.clean)
+      P NoMemory → Ends config made before now result → P result
+  by_end P clean problems print write memory (done is files out err quiet) = subst P (sym is) (by_clean P clean problems made.clean)
   by_end P clean problems print write memory (not_printed is files part told) = subst P (sym is) print
-  by_end P clean problems print write memory (not_written file some is unwritten out told) =
-      subst P (sym is) (write (chars (string_bytes file.name)))
+  by_end P clean problems print write memory (not_written file is unwritten out told) = subst P (sym is) (write file.name)
   by_end P clean problems print write memory (no_memory is files out) = subst P (sym is) memory
 
-  pub ends_not_refused : Ends outcome before now result → IsRefused result → ⊥
+  pub ends_not_refused : Ends config made before now result → IsRefused result → ⊥
   ends_not_refused ends =
       by_end (λ status. IsRefused status → ⊥) (λ h. absurd h) (λ h. absurd h) (λ h. absurd h) (λ name h. absurd h) (λ h. absurd h) ends
 
-  pub ends_not_unread : (P : List ℕ → Type 0) → Ends outcome before now result → IfCannotRead result P
+  pub ends_not_unread : (P : List ℕ → Type 0) → Ends config made before now result → IfCannotRead result P
   ends_not_unread P ends = by_end (λ status. IfCannotRead status P) tt tt tt (λ name. tt) tt ends
-
-  pub ends_not_bad : Ends outcome before now result → result ≡ Stopped BadWords → ⊥
-  ends_not_bad ends is = ends_not_refused ends (subst IsRefused (sym is) tt)
 
   -- ---- what is printed and told
 
-  module _ (given : Given) (heard : ℕ) (fresh : IsTheAnswer given (answer_of outcome heard)) where
-    pub ends_fresh : Ends outcome before now result → IsSettled result →
+  module _ (given : Given) (linted heard : ℕ) (fresh : IsTheAnswer given (answer_of made linted heard)) where
+    pub ends_fresh : Ends config made before now result → IsSettled result →
         DoesAsFresh given result (sinks before.out before.err) (sinks now.out now.err)
-    ends_fresh (done is files out err) settled = record {
-      answer = answer_of outcome heard;
+    ends_fresh (done is files out err quiet) settled = record {
+      answer = answer_of made linted heard;
       fresh = fresh;
       status = is;
       printed = out;
-      told = inl (err ∙ nothing_sent before.err);
+      told = err;
     }
     ends_fresh (not_printed is files part told) settled = absurd (subst IsSettled is settled)
-    ends_fresh (not_written write some is unwritten out told) settled = absurd (subst IsSettled is settled)
+    ends_fresh (not_written file is unwritten out told) settled = absurd (subst IsSettled is settled)
     ends_fresh (no_memory is files out) settled = absurd (subst IsSettled is settled)
 
-    prints_part : SentPart before.out (string_bytes outcome.text) now.out → PrintsPart given before.out now.out
-    prints_part part = record { answer = answer_of outcome heard; fresh = fresh; silent = refl; part = part }
+    prints_part : SentPart before.out (string_bytes made.text) now.out → PrintsPart given before.out now.out
+    prints_part part = record { answer = answer_of made linted heard; fresh = fresh; part = part }
 
-    pub ends_part : Ends outcome before now result → result ≡ Stopped CannotPrint → PrintsPart given before.out now.out
-    ends_part (done is files out err) h = absurd (subst IsDone (sym is ∙ h) (by_clean IsDone tt tt outcome.clean))
+    pub ends_part : Ends config made before now result → result ≡ Stopped CannotPrint → PrintsPart given before.out now.out
+    ends_part (done is files out err quiet) h =
+        absurd (not_done made.clean (λ status. status ≡ Stopped CannotPrint) (λ x. absurd (cc)) (λ x. absurd (cc)) result is h)
     ends_part (not_printed is files part told) h = prints_part part
-    ends_part (not_written write some is unwritten out told) h = absurd (subst IsSilent (sym is ∙ h) tt)
+    ends_part (not_written file is unwritten out told) h = absurd (subst IsSilent (sym is ∙ h) tt)
     ends_part (no_memory is files out) h = absurd (not_stopped (sym is ∙ h))
 
-    prints_some : PrintsSome (string_bytes outcome.text) before.out now.out →
-        (now.out ≡ before.out) ⊎ PrintsPart given before.out now.out
+    prints_some : ends.PrintsSome (string_bytes made.text) before.out now.out → PrintsSome given before.out now.out
     prints_some (inl same) = inl same
-    prints_some (inr part) = inr (prints_part part)
+    prints_some (inr (inl part)) = inr (inl (prints_part part))
+    prints_some (inr (inr all)) = inr (inr (record { answer = answer_of made linted heard; fresh = fresh; all = all }))
 
-    pub ends_no_more : Ends outcome before now result → result ≡ NoMemory →
-        (now.out ≡ before.out) ⊎ PrintsPart given before.out now.out
-    ends_no_more (done is files out err) h = absurd (subst IsDone (sym is ∙ h) (by_clean IsDone tt tt outcome.clean))
-    ends_no_more (not_printed is files part told) h = absurd (not_stopped (sym h ∙ is))
-    ends_no_more (not_written write some is unwritten out told) h = absurd (not_stopped (sym h ∙ is))
-    ends_no_more (no_memory is files out) h = prints_some out
+    pub ends_some_printed : Ends config made before now result → result ≡ NoMemory → PrintsSome given before.out now.out
+    ends_some_printed (done is files out err quiet) h =
+        absurd (not_done made.clean (λ status. status ≡ NoMemory) (λ x. absurd (cc)) (λ x. absurd (cc)) result is h)
+    ends_some_printed (not_printed is files part told) h = absurd (not_stopped (sym h ∙ is))
+    ends_some_printed (not_written file is unwritten out told) h = absurd (not_stopped (sym h ∙ is))
+    ends_some_printed (no_memory is files out) h = prints_some out
 
     -- ---- what is written
 
-    holds_as_fresh : before.files.holds ≡ Some given.held → now.files ≡ with_written before.files (writes_in outcome.write) →
-        HoldsAsFresh given now.files
-    holds_as_fresh told files = record {
-      answer = answer_of outcome heard;
-      fresh = fresh;
-      holds = ap (λ (f : FilesState). f.holds) files ∙ written_holds before.files given.held (writes_in outcome.write) told;
-    }
+    module _ (told : before.files.holds ≡ Some given.held) where
+      holds_as_fresh : now.files ≡ with_written before.files (map write_in made.writes.items) → HoldsAsFresh given now.files
+      holds_as_fresh files = record {
+        answer = answer_of made linted heard;
+        fresh = fresh;
+        holds = ap (λ (f : FilesState). f.holds) files ∙ written_holds before.files given.held (map write_in made.writes.items) told;
+      }
 
-    pub ends_writes : before.files.holds ≡ Some given.held → Ends outcome before now result → IsWritten result →
-        HoldsAsFresh given now.files
-    ends_writes told (done is files out err) written = holds_as_fresh told files
-    ends_writes told (not_printed is files part line) written = holds_as_fresh told files
-    ends_writes told (not_written write some is unwritten out line) written = absurd (subst IsWritten is written)
-    ends_writes told (no_memory is files out) written = absurd (subst IsWritten is written)
+      pub ends_writes : Ends config made before now result → IsWritten result → HoldsAsFresh given now.files
+      ends_writes (done is files out err quiet) written = holds_as_fresh files
+      ends_writes (not_printed is files part line) written = holds_as_fresh files
+      ends_writes (not_written file is unwritten out line) written = absurd (subst IsWritten is written)
+      ends_writes (no_memory is files out) written = absurd (subst IsWritten is written)
 
-    leaves : before.files.holds ≡ Some given.held → WritesSome outcome.write before.files now.files →
-        LeavesFiles given before.files now.files
-    leaves told (nothing same) = inl (ap (λ (f : FilesState). f.holds) same)
-    leaves told (everything files) = inr (inl (holds_as_fresh told files))
-    leaves told (half write some unwritten) = inr (inr (writes_part outcome given heard before.files now.files fresh write some unwritten))
+      -- where a write failed, a fresh run's did
+      writes_part : (file : Write) → IsHalf made.writes.items before.files file now.files → WritesPart given file.name before.files now.files
+      writes_part file unwritten = record {
+        answer = answer_of made linted heard;
+        fresh = fresh;
+        earlier = map write_in unwritten.earlier;
+        half = write_in file;
+        later = map write_in unwritten.later;
+        writes = ap (map write_in) unwritten.listed ∙ map-append write_in unwritten.earlier (file ∷ unwritten.later);
+        same = refl;
+        failed = unwritten.failed;
+        part = leaves_same (with_written before.files (map write_in unwritten.earlier))
+            (record before.files { holds = Some (held_after given.held (map write_in unwritten.earlier)) }) now.files
+            (encode_utf8_all file.name) (encode_utf8_all file.text)
+            (written_holds before.files given.held (map write_in unwritten.earlier) told) unwritten.part;
+      }
 
-    pub ends_left : before.files.holds ≡ Some given.held → Ends outcome before now result → result ≡ NoMemory →
-        LeavesFiles given before.files now.files
-    ends_left told (done is files out err) h = absurd (subst IsDone (sym is ∙ h) (by_clean IsDone tt tt outcome.clean))
-    ends_left told (not_printed is files part line) h = absurd (not_stopped (sym h ∙ is))
-    ends_left told (not_written write some is unwritten out line) h = absurd (not_stopped (sym h ∙ is))
-    ends_left told (no_memory is files out) h = leaves told files
+      leaves : WritesSome made.writes.items before.files now.files → LeavesFiles given before.files now.files
+      leaves (first earlier later listed files) = inr (inl (record {
+        answer = answer_of made linted heard;
+        fresh = fresh;
+        earlier = map write_in earlier;
+        later = map write_in later;
+        writes = ap (map write_in) listed ∙ map-append write_in earlier later;
+        holds = ap (λ (f : FilesState). f.holds) files ∙ written_holds before.files given.held (map write_in earlier) told;
+      }))
+      leaves (half file unwritten) = inr (inr (file.name, writes_part file unwritten))
 
-  -- where a write failed
-  module _ (Q : Type 0) (unwritten : (write : Write) → outcome.write ≡ Some write → IsHalf write before.files now.files → Q) where
-    abbrev IfUnwritten : Status → Type 0
-    IfUnwritten status = IfCannotWrite status (λ name. Q)
+      pub ends_left : Ends config made before now result → result ≡ NoMemory → LeavesFiles given before.files now.files
+      ends_left (done is files out err quiet) h =
+          absurd (not_done made.clean (λ status. status ≡ NoMemory) (λ x. absurd (cc)) (λ x. absurd (cc)) result is h)
+      ends_left (not_printed is files part line) h = absurd (not_stopped (sym h ∙ is))
+      ends_left (not_written file is unwritten out line) h = absurd (not_stopped (sym h ∙ is))
+      ends_left (no_memory is files out) h = leaves files
 
-    pub ends_half : Ends outcome before now result → IfCannotWrite result (λ name. Q)
-    ends_half (done is files out err) = subst IfUnwritten (sym is) (by_clean IfUnwritten tt tt outcome.clean)
-    ends_half (not_printed is files part told) = subst IfUnwritten (sym is) tt
-    ends_half (not_written write some is failed out told) = subst IfUnwritten (sym is) (unwritten write some failed)
-    ends_half (no_memory is files out) = subst IfUnwritten (sym is) tt
+  -- a fact of a run whose write of a file failed
+  if_unwritten : (P : List ℕ → Type 0) → ((file : Write) → IsHalf made.writes.items before.files file now.files → P file.name) →
+      Ends config made before now result → IfCannotWrite result P
+  if_unwritten P unwritten (done is files out err quiet) =
+      subst (λ status. IfCannotWrite status P) (sym is) (by_clean (λ status. IfCannotWrite status P) tt tt made.clean)
+  if_unwritten P unwritten (not_printed is files part told) = subst (λ status. IfCannotWrite status P) (sym is) tt
+  if_unwritten P unwritten (not_written file is failed out told) = subst (λ status. IfCannotWrite status P) (sym is) (unwritten file failed)
+  if_unwritten P unwritten (no_memory is files out) = subst (λ status. IfCannotWrite status P) (sym is) tt
+
+  -- where a fresh run is known wherever it is told what is held
+  pub ends_half : (given : Held → Given) → ((held : Held) → (given held).held ≡ held) →
+      ((held : Held) → before.files.holds ≡ Some held →
+      (linted : ℕ) × ((heard : ℕ) × IsTheAnswer (given held) (answer_of made linted heard))) →
+      Ends config made before now result →
+      IfCannotWrite result (λ name. (held : Held) → before.files.holds ≡ Some held → WritesPart (given held) name before.files now.files)
+  ends_half given same foretold ends =
+      if_unwritten (λ name. (held : Held) → before.files.holds ≡ Some held → WritesPart (given held) name before.files now.files)
+      (λ file failed held told. let known = foretold held told in
+      writes_part (given held) known.0 known.1.0 known.1.1 (told ∙ ap (λ (h : Held). Some h) (sym (same held))) file failed) ends
 
   -- ---- causes
 
-  pub ends_complete : Ends outcome before now result → (FilesFailed before.files now.files → ⊥) → (SinkFailed before.out now.out → ⊥) →
+  pub ends_complete : Ends config made before now result → (FilesFailed before.files now.files → ⊥) → (SinkFailed before.out now.out → ⊥) →
       IsSettled result ⊎ (result ≡ NoMemory)
-  ends_complete (done is files out err) no_files no_sink = inl (subst IsSettled (sym is) (by_clean IsSettled tt tt outcome.clean))
+  ends_complete (done is files out err quiet) no_files no_sink =
+      inl (subst IsSettled (sym is) (by_clean IsSettled tt tt made.clean))
   ends_complete (not_printed is files part told) no_files no_sink = absurd (no_sink part.rose)
-  ends_complete (not_written write some is unwritten out told) no_files no_sink = absurd (no_files unwritten.failed.rose)
+  ends_complete (not_written file is unwritten out told) no_files no_sink = absurd (no_files unwritten.failed.rose)
   ends_complete (no_memory is files out) no_files no_sink = inr is
 
-  pub ends_cannot_print : Ends outcome before now result → result ≡ Stopped CannotPrint → SinkFailed before.out now.out
-  ends_cannot_print (done is files out err) h = absurd (subst IsDone (sym is ∙ h) (by_clean IsDone tt tt outcome.clean))
+  pub ends_cannot_print : Ends config made before now result → result ≡ Stopped CannotPrint → SinkFailed before.out now.out
+  ends_cannot_print (done is files out err quiet) h =
+      absurd (not_done made.clean (λ status. status ≡ Stopped CannotPrint) (λ x. absurd (cc)) (λ x. absurd (cc)) result is h)
   ends_cannot_print (not_printed is files part told) h = part.rose
-  ends_cannot_print (not_written write some is unwritten out told) h = absurd (subst IsSilent (sym is ∙ h) tt)
+  ends_cannot_print (not_written file is unwritten out told) h = absurd (subst IsSilent (sym is ∙ h) tt)
   ends_cannot_print (no_memory is files out) h = absurd (not_stopped (sym is ∙ h))
 
-  module _ (arguments : List (List ℕ)) (asked : ForSome outcome.write (IsAsked arguments)) where
-    pub ends_cannot_write : Ends outcome before now result →
-        IfCannotWrite result (λ name. IsUnwritten arguments name before.files now.files)
-    ends_cannot_write (done is files out err) =
-        let P : Status → Type 0 = λ status. IfCannotWrite status (λ name. IsUnwritten arguments name before.files now.files) in
-        subst P (sym is) (by_clean P tt tt outcome.clean)
-    ends_cannot_write (not_printed is files part told) =
-        let P : Status → Type 0 = λ status. IfCannotWrite status (λ name. IsUnwritten arguments name before.files now.files) in
-        subst P (sym is) tt
-    ends_cannot_write (not_written write some is unwritten out told) =
-        let P : Status → Type 0 = λ status. IfCannotWrite status (λ name. IsUnwritten arguments name before.files now.files) in
-        subst P (sym is) (record { file = string_bytes write.name; asked = asked write some; same = refl; failed = unwritten.failed })
-    ends_cannot_write (no_memory is files out) =
-        let P : Status → Type 0 = λ status. IfCannotWrite status (λ name. IsUnwritten arguments name before.files now.files) in
-        subst P (sym is) tt
+  pub ends_told : Ends config made before now result → (cause : StopCause) → result ≡ Stopped cause →
+      IsTold before.err (fault_line config cause) now.err
+  ends_told (done is files out err quiet) cause h =
+      absurd (not_done made.clean (λ status. status ≡ Stopped cause) (λ x. absurd (cc)) (λ x. absurd (cc)) result is h)
+  ends_told (not_printed is files part told) cause h =
+      subst (λ why. IsTold before.err (fault_line config why) now.err) (same_cause (sym is ∙ h)) told
+  ends_told (not_written file is unwritten out told) cause h =
+      subst (λ why. IsTold before.err (fault_line config why) now.err) (same_cause (sym is ∙ h)) told
+  ends_told (no_memory is files out) cause h = absurd (not_stopped (sym is ∙ h))
 
-    nothing_asked : AskNoFixes arguments → (write : Option Write) → ForSome write (IsAsked arguments) → writes_in write ≡ []
-    nothing_asked no_fixes None asks = refl
-    nothing_asked no_fixes (Some write) asks = absurd (no_fixes (string_bytes write.name) (asks write refl))
+  -- ---- what the words ask for
 
-    kept : AskNoFixes arguments → now.files ≡ with_written before.files (writes_in outcome.write) → now.files.holds ≡ before.files.holds
+  module _ (words : List (List ℕ)) (for_words : IsMadeFor words made) where
+    -- without fixes nothing is written
+    nothing_failed : AskNoFixes words → (file : Write) → IsHalf made.writes.items before.files file now.files → ⊥
+    nothing_failed no_fixes file unwritten = none_listed unwritten.earlier unwritten.later file (sym (for_words.reads no_fixes) ∙ unwritten.listed)
+
+    failed_in : (plan : Plan) → plan_of words ≡ Ok plan → (file : Write) → IsHalf made.writes.items before.files file now.files →
+        IsUnwritten words file.name before.files now.files
+    failed_in (Lint plan) asks file unwritten = record {
+      plan = plan;
+      asks = asks;
+      fixes = λ report. nothing_failed (ap mode_in asks ∙ report) file unwritten;
+      asked = for_words.asked plan asks file (record { earlier = unwritten.earlier; later = unwritten.later; listed = unwritten.listed });
+      failed = unwritten.failed;
+    }
+    failed_in (Generate count) asks file unwritten = absurd (nothing_failed (ap mode_in asks) file unwritten)
+
+    pub ends_cannot_write : Ends config made before now result →
+        IfCannotWrite result (λ name. IsUnwritten words name before.files now.files)
+    ends_cannot_write ends =
+        if_unwritten (λ name. IsUnwritten words name before.files now.files) (failed_in for_words.plan for_words.asks) ends
+
+    kept : AskNoFixes words → now.files ≡ with_written before.files (map write_in made.writes.items) → now.files.holds ≡ before.files.holds
     kept no_fixes files =
-        ap (λ (f : FilesState). f.holds) (files ∙ ap (with_written before.files) (nothing_asked no_fixes outcome.write asked))
+        ap (λ (f : FilesState). f.holds) (files ∙ ap (λ ws. with_written before.files (map write_in ws)) (for_words.reads no_fixes))
 
-    some_kept : AskNoFixes arguments → WritesSome outcome.write before.files now.files → now.files.holds ≡ before.files.holds
-    some_kept no_fixes (nothing same) = ap (λ (f : FilesState). f.holds) same
-    some_kept no_fixes (everything files) = kept no_fixes files
-    some_kept no_fixes (half write some unwritten) = absurd (no_fixes (string_bytes write.name) (asked write some))
+    first_of_none : {X : Type 0} (earlier later : List X) → [] ≡ earlier ++ later → earlier ≡ []
+    first_of_none [] later none = refl
+    first_of_none (one ∷ more) later none = absurd (cc)
 
-    pub ends_reads : Ends outcome before now result → AskNoFixes arguments → now.files.holds ≡ before.files.holds
-    ends_reads (done is files out err) no_fixes = kept no_fixes files
+    some_kept : AskNoFixes words → WritesSome made.writes.items before.files now.files → now.files.holds ≡ before.files.holds
+    some_kept no_fixes (first earlier later listed files) =
+        ap (λ (f : FilesState). f.holds)
+        (files ∙ ap (λ ws. with_written before.files (map write_in ws)) (first_of_none earlier later (sym (for_words.reads no_fixes) ∙ listed)))
+    some_kept no_fixes (half file unwritten) = absurd (nothing_failed no_fixes file unwritten)
+
+    pub ends_reads : Ends config made before now result → AskNoFixes words → now.files.holds ≡ before.files.holds
+    ends_reads (done is files out err quiet) no_fixes = kept no_fixes files
     ends_reads (not_printed is files part told) no_fixes = kept no_fixes files
-    ends_reads (not_written write some is unwritten out told) no_fixes = absurd (no_fixes (string_bytes write.name) (asked write some))
+    ends_reads (not_written file is unwritten out told) no_fixes = absurd (nothing_failed no_fixes file unwritten)
     ends_reads (no_memory is files out) no_fixes = some_kept no_fixes files
 
-  pub ends_told : Ends outcome before now result → (cause : StopCause) → result ≡ Stopped cause → IsTold before.err (fault_line cause) now.err
-  ends_told (done is files out err) cause h = absurd (subst IsDone (sym is ∙ h) (by_clean IsDone tt tt outcome.clean))
-  ends_told (not_printed is files part told) cause h =
-      subst (λ why. IsTold before.err (fault_line why) now.err) (same_cause (sym is ∙ h)) told
-  ends_told (not_written write some is unwritten out told) cause h =
-      subst (λ why. IsTold before.err (fault_line why) now.err) (same_cause (sym is ∙ h)) told
-  ends_told (no_memory is files out) cause h = absurd (not_stopped (sym is ∙ h))
+    pub ends_quiet : Ends config made before now result → IsDone result → SetNoLimit words → now.err ≡ before.err
+    ends_quiet (done is files out err quiet) h no_limit = quiet (for_words.quiet no_limit)
+    ends_quiet (not_printed is files part told) h no_limit = absurd (subst IsDone is h)
+    ends_quiet (not_written file is unwritten out told) h no_limit = absurd (subst IsDone is h)
+    ends_quiet (no_memory is files out) h no_limit = absurd (subst IsDone is h)
 
   -- ---- what is left alone
 
-  pub ends_quiet : Ends outcome before now result → IsDone result → now.err ≡ before.err
-  ends_quiet (done is files out err) h = err
-  ends_quiet (not_printed is files part told) h = absurd (subst IsDone is h)
-  ends_quiet (not_written write some is unwritten out told) h = absurd (subst IsDone is h)
-  ends_quiet (no_memory is files out) h = absurd (subst IsDone is h)
-
-  pub ends_silent : Ends outcome before now result → IsSilent result → now.out ≡ before.out
-  ends_silent (done is files out err) h =
-      absurd (by_clean (λ status. IsSilent status → ⊥) (λ x. x) (λ x. x) outcome.clean (subst IsSilent is h))
+  pub ends_silent : Ends config made before now result → IsSilent result → now.out ≡ before.out
+  ends_silent (done is files out err quiet) h = absurd (not_done made.clean IsSilent (λ x. absurd x) (λ x. absurd x) result is h)
   ends_silent (not_printed is files part told) h = absurd (subst IsSilent is h)
-  ends_silent (not_written write some is unwritten out told) h = out
+  ends_silent (not_written file is unwritten out told) h = out
   ends_silent (no_memory is files out) h = absurd (subst IsSilent is h)
 
-  pub ends_no_failure : Ends outcome before now result → IsDone result → HasNotFailed before.files now.files
-  ends_no_failure (done is files out err) h =
-      subst (HasNotFailed before.files) (sym files) (written_unfailed before.files (writes_in outcome.write))
+  pub ends_no_failure : Ends config made before now result → IsDone result → HasNotFailed before.files now.files
+  ends_no_failure (done is files out err quiet) h =
+      subst (HasNotFailed before.files) (sym files) (written_unfailed before.files (map write_in made.writes.items))
   ends_no_failure (not_printed is files part told) h = absurd (subst IsDone is h)
-  ends_no_failure (not_written write some is unwritten out told) h = absurd (subst IsDone is h)
+  ends_no_failure (not_written file is unwritten out told) h = absurd (subst IsDone is h)
   ends_no_failure (no_memory is files out) h = absurd (subst IsDone is h)
 
-  pub ends_all_printed : Ends outcome before now result → IsDone result → now.out.faults ≡ before.out.faults
-  ends_all_printed (done is files out err) h = ap (λ (s : SinkState). s.faults) out
+  pub ends_all_printed : Ends config made before now result → IsDone result → now.out.faults ≡ before.out.faults
+  ends_all_printed (done is files out err quiet) h = ap (λ (s : SinkState). s.faults) out
   ends_all_printed (not_printed is files part told) h = absurd (subst IsDone is h)
-  ends_all_printed (not_written write some is unwritten out told) h = absurd (subst IsDone is h)
+  ends_all_printed (not_written file is unwritten out told) h = absurd (subst IsDone is h)
   ends_all_printed (no_memory is files out) h = absurd (subst IsDone is h)
-
-  some_printed : PrintsSome (string_bytes outcome.text) before.out now.out → (now.out ≡ before.out) ⊎ SinkFailed before.out now.out
-  some_printed (inl same) = inl same
-  some_printed (inr part) = inr part.rose
-
-  pub ends_no_memory : Ends outcome before now result → result ≡ NoMemory → (now.out ≡ before.out) ⊎ SinkFailed before.out now.out
-  ends_no_memory (done is files out err) h = absurd (subst IsDone (sym is ∙ h) (by_clean IsDone tt tt outcome.clean))
-  ends_no_memory (not_printed is files part told) h = absurd (not_stopped (sym h ∙ is))
-  ends_no_memory (not_written write some is unwritten out told) h = absurd (not_stopped (sym h ∙ is))
-  ends_no_memory (no_memory is files out) h = some_printed out
-
--- where the files were as before, before it ended
-pub moved : {outcome : Outcome} {files files' : FilesState} {out err : SinkState} {now : World} {result : Status} → files' ≡ files →
-    Ends outcome (world files' out err) now result → Ends outcome (world files out err) now result
-moved {outcome = outcome} {out = out} {err = err} {now = now} {result = result} same ends =
-    subst (λ files. Ends outcome (world files out err) now result) same ends

@@ -1,7 +1,13 @@
-pub mod ArgumentsLemmas
+pub mod ConfigLemmas
+pub mod CoursesLemmas
 pub mod EndingLemmas
 pub mod EndsLemmas
 pub mod FreshLemmas
+pub mod GatheringLemmas
+pub mod GeneratedLemmas
 pub mod KitsLemmas
-pub mod ReportLemmas
-pub mod RunsLemmas
+pub mod LintingLemmas
+pub mod PartsLemmas
+pub mod ReportingLemmas
+pub mod RunningLemmas
+pub mod WorkLemmas

@@ -1,109 +1,150 @@
--- A fresh run: what is written, printed, told and answered, by what the rules mean, by the arguments and by what is
--- held.
+-- A fresh run: the order of work, for any held files. What is written, printed, told and answered, by what the rules
+-- mean, by the words and by what is held.
 -- Nothing here knows of a fault of the outside, nor of being out of memory.
-use Rattle.std.specs.Prelude.{◌≡◌, ℕ, ◌<◌, ◌≤◌, Bool, List, [], ◌∷◌, length, Option, Some, None, encode_utf8_all, if◌then◌else◌}
-use Rattle.std.specs.List.{list_any}
-use Rattle.std.specs.Str.{chars}
+use Rattle.std.specs.Prelude.{◌≡◌, ℕ, List, [], ◌++◌, length, map, None, Result, Ok, Err, encode_utf8_all}
 use Rattle.std.specs.FinMap as finite
-use Rattle.es_text.specs.SourceFaults.{most_bytes}
-use Rattle.es_text.specs.Texts.{Text, text_of}
-use Rattle.es_settings.specs.declared.mode.Mode.{Mode}
-use Rattle.es_settings.specs.Settings.{Settings}
-use Rattle.es_host.specs.Meanings.{Meaning}
-use Rattle.es_format.specs.Stylish.{error, stylish_of}
+use Rattle.es_plan.specs.declared.plan.LintPlan.{LintPlan}
+use Rattle.es_plan.specs.declared.plan.Plan.TheVariants.{Generate, Lint}
+use Rattle.es_plan.specs.declared.plan.PlanFault.TheVariants as fault
+use Rattle.es_plan.specs.Plans.{plan_of}
+use Rattle.es_settings.specs.declared.mode.Mode.TheVariants.{Report}
+use Rattle.es_host.specs.Meanings.{Meaning, meaning_at}
+use Rattle.es_config.specs.declared.fault.FaultKind.{FaultKind}
+use Rattle.es_config.specs.Configurations.{built_in}
+use Rattle.es_config.specs.Entries.{Layer}
+use Rattle.es_config.specs.Outcomes.{Outcome, outcome_for}
+use Rattle.es_config.specs.Reading.{ComeTo, KnownRules, known}
+use Rattle.es_config.specs.Walks.{faulty, good}
+use Rattle.es_files.specs.Outside.{Held, HoldsMore}
+use Rattle.es_format.specs.Stylish.{Named, all_messages}
 use Rattle.es_messages.specs.declared.message.FileResult.{FileResult}
-use Rattle.es_messages.specs.declared.message.Message.{Message}
-use Rattle.es_lint.specs.Passes.{Fixed, Fixes, most_passes}
-use Rattle.es_lint.specs.Results.{result_of}
-use Rattle.es_files.specs.Outside.{Held}
 use Rattle.es_run.specs.declared.status.Status.{Status}
-use Rattle.es_run.specs.declared.status.Status.TheVariants.{Clean, Problems, Stopped}
+use Rattle.es_run.specs.declared.status.Status.TheVariants.{Stopped}
 use Rattle.es_run.specs.declared.status.StopCause.{StopCause}
-use Rattle.es_run.specs.declared.status.StopCause.TheVariants.{BadWords, NoFile, TooLong}
-use Rattle.es_run.specs.Arguments.{Ask, AskNothing}
-use Rattle.es_run.specs.Programs.{all_at_error, source_type_of}
+use Rattle.es_run.specs.declared.status.StopCause.TheVariants.{BadConfig, BadWords, ConfigMissing, TooLong, TooMany}
+use Rattle.es_run.specs.Gathering.{HoldsConfig, NamedPart, Part, gathered, most_config_bytes, source}
+use Rattle.es_run.specs.Generated.{all_at_error, generated_line, generated_status, generated_text}
+use Rattle.es_run.specs.Linting.{ComeToAll, ComesTo, linted_count}
+use Rattle.es_run.specs.Reporting.{Writing, line_of, report_of, status_of, writes_of}
 use Rattle.es_run.specs.Statuses.{fault_line}
 
--- what a run is given: what the rules mean, the arguments as their bytes, and what is held
+-- what a run is given: what the rules mean, the words, and what is held
 pub record Given : Type 0 where
   pub meanings : List Meaning
-  pub arguments : List (List ℕ)
+  pub words : List (List ℕ)
   pub held : Held
 
--- a file that is written: its name and its bytes
-pub record Writing : Type 0 where
-  pub name : List ℕ
-  pub bytes : List ℕ
+-- what a run of a plan is given
+pub record Planned : Type 0 where
+  pub meanings : List Meaning
+  pub plan : LintPlan
+  pub held : Held
+
+abbrev pub planned : Given → LintPlan → Planned
+planned given plan = record { meanings = given.meanings; plan = plan; held = given.held }
 
 -- what a run gives: its status, the files that it writes, one after the other, its output, its line on standard
--- error, and how often its rules listened
+-- error, how many files it lints, and how often its rules listened
 pub record Answer : Type 0 where
   pub status : Status
   pub writes : List Writing
   pub output : List ℕ
   pub line : List ℕ
+  pub linted : ℕ
   pub heard : ℕ
 
--- what is held after these files are written
-abbrev pub held_after : Held → List Writing → Held
-held_after held [] = held
-held_after held (writing ∷ later) = held_after (finite.insert held writing.name writing.bytes) later
+-- the answer of a run, with the configuration of this name, that stops: nothing is written, printed or linted, and the
+-- line is that of the cause
+abbrev pub stopped : List ℕ → StopCause → Answer
+stopped config cause = record {
+  status = Stopped cause;
+  writes = [];
+  output = [];
+  line = fault_line config cause;
+  linted = 0;
+  heard = 0;
+}
 
--- the answer of a run that stops: nothing is written or printed, and the line is that of the cause
-abbrev pub stopped : StopCause → Answer
-stopped cause = record { status = Stopped cause; writes = []; output = []; line = fault_line cause; heard = 0 }
-
--- a file without an error is clean
-abbrev pub has_error : List Message → Bool
-has_error messages = list_any error messages
-
-abbrev pub status_of : List Message → Status
-status_of messages = if has_error messages then Problems else Clean
-
--- the bytes of the stylish report on a file of this name, of which linting gave this
-abbrev pub report_of : List ℕ → FileResult → List ℕ
-report_of name result = encode_utf8_all (stylish_of ((chars name, result) ∷ []))
-
--- a file whose text fixes changed is written
-abbrev pub writes_of : List ℕ → Option (List ℕ) → List Writing
-writes_of name None = []
-writes_of name (Some text) = record { name = name; bytes = encode_utf8_all text } ∷ []
-
--- the answer of a run that reports this of the file of this name, where the rules were heard so often
-abbrev pub reported : List ℕ → FileResult → ℕ → Answer
-reported name result heard = record {
-  status = status_of result.messages;
-  writes = writes_of name result.output;
-  output = report_of name result;
-  line = [];
+-- the answer of a run that tells this of so many linted files, for which the rules listened so often
+abbrev pub reported : LintPlan → ℕ → List Named → ℕ → Answer
+reported plan linted results heard = record {
+  status = status_of plan.max_warnings (all_messages results);
+  writes = writes_of results;
+  output = report_of plan.json plan.quiet results;
+  line = line_of plan.max_warnings (all_messages results);
+  linted = linted;
   heard = heard;
 }
 
--- the answer of a run that reports what passes of fixes, or none, give of this text
-abbrev pub reported_of : List ℕ → Text → Fixed → Answer
-reported_of name text fixed = reported name (result_of text.marked fixed) fixed.heard
+-- the rules that a configuration may name
+abbrev pub rules_of : List Meaning → KnownRules
+rules_of meanings =
+    known (map (λ (meaning : Meaning). meaning.id) meanings) (λ place options. (meaning_at meanings place).verdict options)
 
--- what is set for a file of this name, with each of the rules at error and without options
-abbrev pub set_for : List ℕ → List Meaning → Settings
-set_for name meanings = all_at_error (source_type_of name) (length meanings)
+-- ---- a run of a plan
 
--- the answer for a file of this name and these bytes
-pub data OfBytes (meanings : List Meaning) (mode : Mode) (name bytes : List ℕ) (answer : Answer) : Type 0 where
-  too_long : most_bytes < length bytes → answer ≡ stopped (TooLong (chars name)) → OfBytes meanings mode name bytes answer
-  linted : (fixed : Fixed) → length bytes ≤ most_bytes →
-      Fixes meanings (set_for name meanings) mode (most_passes mode) (text_of bytes) fixed →
-      answer ≡ reported_of name (text_of bytes) fixed → OfBytes meanings mode name bytes answer
+-- these bytes are the configuration
+abbrev pub IsConfig : Planned → List ℕ → Type 0
+IsConfig given bytes = HoldsConfig given.held given.plan.config bytes
 
--- the answer for a name, under which these bytes are held, or none
-pub data OfName (meanings : List Meaning) (mode : Mode) (name : List ℕ) (found : Option (List ℕ)) (answer : Answer) : Type 0 where
-  no_file : found ≡ None → answer ≡ stopped (NoFile (chars name)) → OfName meanings mode name found answer
-  held : (bytes : List ℕ) → found ≡ Some bytes → OfBytes meanings mode name bytes answer → OfName meanings mode name found answer
+-- it is read as these entries
+pub record IsSet (given : Planned) (entries : List Layer) : Type 0 where
+  pub bytes : List ℕ
+  pub config : IsConfig given bytes
+  pub read : ComeTo (rules_of given.meanings) bytes (good entries)
+
+-- what entries decide for a name, behind those that stand in front of each configuration's own
+abbrev pub decided : Planned → List Layer → List ℕ → Outcome
+decided given entries name = outcome_for (length given.meanings) (built_in ++ entries) name
+
+-- what is gathered under these entries of the names of the plan
+abbrev pub gathered_under : Planned → List Layer → Result (List NamedPart) StopCause
+gathered_under given entries = gathered given.plan.inline (decided given entries) given.held 0 given.plan.names
+
+-- the answer of a fresh run of a plan, in the order of its work
+pub data FreshPlan (given : Planned) (answer : Answer) : Type 0 where
+  no_config : finite.get given.held (encode_utf8_all given.plan.config) ≡ None →
+      answer ≡ stopped given.plan.config ConfigMissing → FreshPlan given answer
+  long_config : HoldsMore given.held (encode_utf8_all given.plan.config) most_config_bytes →
+      answer ≡ stopped given.plan.config (TooLong given.plan.config) → FreshPlan given answer
+  bad_config : (bytes : List ℕ) (kind : FaultKind) (pointer : List ℕ) → IsConfig given bytes →
+      ComeTo (rules_of given.meanings) bytes (faulty kind pointer) →
+      answer ≡ stopped given.plan.config (BadConfig kind pointer) → FreshPlan given answer
+  refused : (entries : List Layer) (cause : StopCause) → IsSet given entries → gathered_under given entries ≡ Err cause →
+      answer ≡ stopped given.plan.config cause → FreshPlan given answer
+  done : (entries : List Layer) (parts : List NamedPart) (results : List Named) (heard : ℕ) → IsSet given entries →
+      gathered_under given entries ≡ Ok parts → ComeToAll given.meanings given.plan.mode parts results heard →
+      answer ≡ reported given.plan (linted_count parts) results heard → FreshPlan given answer
+
+-- ---- a run with `--generate`
+
+-- the text of so many lines, with each rule at error
+abbrev pub generated_part : List Meaning → ℕ → Part
+generated_part meanings count = source (all_at_error (length meanings)) (generated_text count)
+
+-- the answer of a run that tells this of a generated text, for which the rules listened so often
+abbrev pub told_of_text : ℕ → FileResult → ℕ → Answer
+told_of_text count told heard = record {
+  status = generated_status told.messages;
+  writes = [];
+  output = generated_line count told.messages;
+  line = [];
+  linted = 1;
+  heard = heard;
+}
+
+-- ---- a run
 
 -- the answer of a fresh run
 pub data Fresh (given : Given) (answer : Answer) : Type 0 where
-  bad_words : AskNothing given.arguments → answer ≡ stopped BadWords → Fresh given answer
-  asked : (mode : Mode) (name : List ℕ) → Ask given.arguments mode name →
-      OfName given.meanings mode name (finite.get given.held name) answer → Fresh given answer
+  bad_words : plan_of given.words ≡ Err fault.BadWords → answer ≡ stopped [] BadWords → Fresh given answer
+  too_many : (names : ℕ) → plan_of given.words ≡ Err (fault.TooMany names) → answer ≡ stopped [] (TooMany names) →
+      Fresh given answer
+  of_plan : (plan : LintPlan) → plan_of given.words ≡ Ok (Lint plan) → FreshPlan (planned given plan) answer →
+      Fresh given answer
+  of_text : (count : ℕ) (told : FileResult) (heard : ℕ) → plan_of given.words ≡ Ok (Generate count) →
+      ComesTo given.meanings Report (generated_part given.meanings count) told heard →
+      answer ≡ told_of_text count told heard → Fresh given answer
 
 -- a fresh run gives this answer and no other
 pub record IsTheAnswer (given : Given) (answer : Answer) : Type 0 where

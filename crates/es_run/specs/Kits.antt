@@ -27,7 +27,3 @@ pub record HeardAtMost (most : ℕ) (before now : List ℕ) : Type 0 where
   pub times : ℕ
   pub few : times ≤ most
   pub first : now ≡ first_heard times before
-
--- ten passes of fixes at most, and one more linting
-abbrev pub most_lintings : ℕ
-most_lintings = 11

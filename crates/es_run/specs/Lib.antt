@@ -1,7 +1,12 @@
-pub mod Arguments
+pub mod Courses
+pub mod Ends
 pub mod Fresh
+pub mod Gathering
+pub mod Generated
 pub mod Kits
-pub mod Programs
+pub mod Linting
+pub mod Reporting
 pub mod Runs
 pub mod Stages
 pub mod Statuses
+pub mod Works

@@ -1,17 +1,26 @@
 -- What the clauses of a run say: which statuses are settled, and what a run does beside a fresh one.
-use Rattle.std.specs.Prelude.{◌≡◌, ℕ, ◌+◌, ◌⊎◌, List, [], ◌∷◌, Some, map, String, string_bytes}
+use Rattle.std.specs.Prelude.{◌≡◌, ◌≢◌, ℕ, suc, ◌+◌, ◌*◌, ◌≤◌, ◌⊎◌, ◌++◌, List, [], ◌∷◌, length, Option, None, Some, Result, Ok, Err, String, encode_utf8_all, map, string_bytes}
 use Rattle.std.specs.declared.alloc.Global.{Global}
-use Rattle.std.specs.Str.{chars}
 use Rattle.es_settings.specs.declared.mode.Mode.{Mode}
-use Rattle.es_settings.specs.declared.mode.Mode.TheVariants.{FixAll}
+use Rattle.es_settings.specs.declared.mode.Mode.TheVariants.{Report}
+use Rattle.es_plan.specs.declared.plan.LintPlan.{LintPlan}
+use Rattle.es_plan.specs.declared.plan.Plan.{Plan}
+use Rattle.es_plan.specs.declared.plan.Plan.TheVariants.{Generate, Lint}
+use Rattle.es_plan.specs.declared.plan.PlanFault.{PlanFault}
+use Rattle.es_plan.specs.declared.plan.PlanFault.TheVariants as fault
+use Rattle.es_plan.specs.Plans.{plan_of}
+use Rattle.es_lint.specs.Passes.{most_passes}
 use Rattle.es_host.specs.Meanings.{Meaning}
 use Rattle.es_files.specs.Outside.{FilesState, HasFailed, Held, LeavesPart, SentPart, SinkState, reading, with_sent, writing}
 use Rattle.es_run.specs.declared.status.Status.{Status}
 use Rattle.es_run.specs.declared.status.Status.TheVariants.{Clean, Problems, Stopped, NoMemory}
-use Rattle.es_run.specs.declared.status.StopCause.TheVariants.{BadWords, NoFile, TooLong, CannotRead, CannotWrite, CannotPrint}
-use Rattle.es_run.specs.Fresh.{Answer, Fresh, Given, IsTheAnswer, Writing, held_after}
+use Rattle.es_run.specs.declared.status.StopCause.{StopCause}
+use Rattle.es_run.specs.declared.status.StopCause.TheVariants.{BadWords, TooMany, ConfigMissing, BadConfig, NoFile, TooLong, CannotRead, TooMuch, CannotWrite, CannotPrint}
+use Rattle.es_run.specs.Fresh.{Answer, Fresh, Given, IsTheAnswer}
+use Rattle.es_run.specs.Gathering.{IsOneOf}
 use Rattle.es_run.specs.Kits.{HeardAtMost, first_heard}
-use Rattle.es_run.specs.Arguments.{Ask}
+use Rattle.es_run.specs.Reporting.{Writing}
+use Rattle.std.specs.FinMap as finite
 
 -- ---- statuses
 
@@ -20,19 +29,19 @@ abbrev pub IsSettled : Status → Type 0
 IsSettled Clean = Unit {0}
 IsSettled Problems = Unit {0}
 IsSettled (Stopped BadWords) = Unit {0}
+IsSettled (Stopped (TooMany names)) = Unit {0}
+IsSettled (Stopped ConfigMissing) = Unit {0}
+IsSettled (Stopped (BadConfig kind pointer)) = Unit {0}
 IsSettled (Stopped (NoFile name)) = Unit {0}
 IsSettled (Stopped (TooLong name)) = Unit {0}
-IsSettled (Stopped (CannotRead name)) = ⊥
-IsSettled (Stopped (CannotWrite name)) = ⊥
-IsSettled (Stopped CannotPrint) = ⊥
-IsSettled NoMemory = ⊥
+IsSettled (Stopped (TooMuch bytes)) = Unit {0}
+IsSettled _ = ⊥
 
 -- the run printed its report
 abbrev pub IsDone : Status → Type 0
 IsDone Clean = Unit {0}
 IsDone Problems = Unit {0}
-IsDone (Stopped cause) = ⊥
-IsDone NoMemory = ⊥
+IsDone _ = ⊥
 
 -- the run made its report
 abbrev pub IsReported : Status → Type 0
@@ -45,29 +54,26 @@ IsReported _ = ⊥
 -- the run stopped before it linted anything
 abbrev pub IsRefused : Status → Type 0
 IsRefused (Stopped BadWords) = Unit {0}
+IsRefused (Stopped (TooMany names)) = Unit {0}
+IsRefused (Stopped ConfigMissing) = Unit {0}
+IsRefused (Stopped (BadConfig kind pointer)) = Unit {0}
 IsRefused (Stopped (NoFile name)) = Unit {0}
 IsRefused (Stopped (TooLong name)) = Unit {0}
+IsRefused (Stopped (TooMuch bytes)) = Unit {0}
 IsRefused (Stopped (CannotRead name)) = Unit {0}
 IsRefused _ = ⊥
 
 -- the run stopped before it printed anything
 abbrev pub IsSilent : Status → Type 0
-IsSilent (Stopped BadWords) = Unit {0}
-IsSilent (Stopped (NoFile name)) = Unit {0}
-IsSilent (Stopped (TooLong name)) = Unit {0}
-IsSilent (Stopped (CannotRead name)) = Unit {0}
 IsSilent (Stopped (CannotWrite name)) = Unit {0}
-IsSilent _ = ⊥
+IsSilent status = IsRefused status
 
 -- the run wrote all that it had to write
 abbrev pub IsWritten : Status → Type 0
-IsWritten Clean = Unit {0}
-IsWritten Problems = Unit {0}
-IsWritten (Stopped BadWords) = Unit {0}
-IsWritten (Stopped (NoFile name)) = Unit {0}
-IsWritten (Stopped (TooLong name)) = Unit {0}
-IsWritten (Stopped CannotPrint) = Unit {0}
-IsWritten _ = ⊥
+IsWritten (Stopped (CannotRead name)) = ⊥
+IsWritten (Stopped (CannotWrite name)) = ⊥
+IsWritten NoMemory = ⊥
+IsWritten _ = Unit {0}
 
 -- a fact of the name of a file that couldn't be read
 abbrev pub IfCannotRead : Status → (List ℕ → Type 0) → Type 0
@@ -83,11 +89,61 @@ IfCannotWrite _ P = Unit {0}
 abbrev pub IsUnlessNoMemory : Status → Status → Type 0
 IsUnlessNoMemory status result = (result ≡ status) ⊎ (result ≡ NoMemory)
 
+-- ---- what the words ask for
+
+-- the words are refused for this cause
+abbrev pub RefusesWords : List (List ℕ) → StopCause → Type 0
+RefusesWords words BadWords = plan_of words ≡ Err fault.BadWords
+RefusesWords words (TooMany names) = plan_of words ≡ Err (fault.TooMany names)
+RefusesWords words _ = ⊥
+
+abbrev pub config_in : Result Plan PlanFault → List ℕ
+config_in (Ok (Lint plan)) = plan.config
+config_in _ = []
+
+-- the name of the configuration, if the words ask for a run with one
+abbrev pub config_of : List (List ℕ) → List ℕ
+config_of words = config_in (plan_of words)
+
+abbrev pub mode_in : Result Plan PlanFault → Mode
+mode_in (Ok (Lint plan)) = plan.mode
+mode_in _ = Report
+
+-- the words don't ask for fixes
+abbrev pub AskNoFixes : List (List ℕ) → Type 0
+AskNoFixes words = mode_in (plan_of words) ≡ Report
+
+abbrev pub limit_in : Result Plan PlanFault → Option ℕ
+limit_in (Ok (Lint plan)) = plan.max_warnings
+limit_in _ = None
+
+-- the words set no limit of warnings
+abbrev pub SetNoLimit : List (List ℕ) → Type 0
+SetNoLimit words = limit_in (plan_of words) ≡ None
+
+abbrev pub most_lintings_in : Result Plan PlanFault → ℕ
+most_lintings_in (Ok (Lint plan)) = suc (most_passes plan.mode) * length plan.names
+most_lintings_in (Ok (Generate count)) = 1
+most_lintings_in (Err why) = 0
+
+-- how often the rules listen at most: for each name to its text, and to what each pass of fixes makes
+abbrev pub most_lintings : List (List ℕ) → ℕ
+most_lintings words = most_lintings_in (plan_of words)
+
+abbrev pub most_steps_in : Result Plan PlanFault → ℕ
+most_steps_in (Ok (Lint plan)) = length plan.names
+most_steps_in (Ok (Generate count)) = 1
+most_steps_in (Err why) = 0
+
+-- how many steps a run takes at most
+abbrev pub most_steps : List (List ℕ) → ℕ
+most_steps words = most_steps_in (plan_of words)
+
 -- ---- what a run does
 
 -- what a run is given
 abbrev pub given : List Meaning → List (String Global) → Held → Given
-given meanings arguments held = record { meanings = meanings; arguments = map string_bytes arguments; held = held }
+given meanings words held = record { meanings = meanings; words = map string_bytes words; held = held }
 
 -- the two sinks of a run
 pub record Sinks : Type 0 where
@@ -109,22 +165,10 @@ pub record DoesAsFresh (given : Given) (result : Status) (before now : Sinks) : 
   pub printed : now.out ≡ with_sent before.out answer.output
   pub told : IsTold before.err answer.line now.err
 
--- the rules of the first kit listened as often as those of a fresh run
-pub record ListensAsFresh (given : Given) (before now : List ℕ) : Type 0 where
-  pub answer : Answer
-  pub fresh : IsTheAnswer given answer
-  pub listens : now ≡ first_heard answer.heard before
-
--- the rules of the first kit listened at most as often as those of a fresh run
-abbrev pub ListensAtMostAsFresh : Given → List ℕ → List ℕ → Type 0
-ListensAtMostAsFresh given before now = (answer : Answer) → Fresh given answer → HeardAtMost answer.heard before now
-
--- printing the output of a fresh run failed, which tells nothing and does nothing else: some first part of it went out
-pub record PrintsPart (given : Given) (before now : SinkState) : Type 0 where
-  pub answer : Answer
-  pub fresh : IsTheAnswer given answer
-  pub silent : answer.line ≡ []
-  pub part : SentPart before answer.output now
+-- what is held after these files are written
+abbrev pub held_after : Held → List Writing → Held
+held_after held [] = held
+held_after held (writing ∷ later) = held_after (finite.insert held writing.name writing.bytes) later
 
 -- the files hold what a fresh run leaves
 pub record HoldsAsFresh (given : Given) (now : FilesState) : Type 0 where
@@ -132,40 +176,84 @@ pub record HoldsAsFresh (given : Given) (now : FilesState) : Type 0 where
   pub fresh : IsTheAnswer given answer
   pub holds : now.holds ≡ Some (held_after given.held answer.writes)
 
--- the one write of a fresh run failed, which does nothing else: its file holds what it held, or a first part of the bytes
-pub record WritesPart (given : Given) (before now : FilesState) : Type 0 where
+-- the files hold what a fresh run leaves that stops after some first ones of its writes
+pub record HoldsFirst (given : Given) (now : FilesState) : Type 0 where
   pub answer : Answer
   pub fresh : IsTheAnswer given answer
-  pub writes : Writing
-  pub one : answer.writes ≡ writes ∷ []
-  pub failed : HasFailed before (writing writes.name) now
-  pub part : LeavesPart before writes.name writes.bytes now
+  pub earlier : List Writing
+  pub later : List Writing
+  pub writes : answer.writes ≡ earlier ++ later
+  pub holds : now.holds ≡ Some (held_after given.held earlier)
 
--- the files hold what they held, or what a fresh run leaves, or its one write failed
+-- a write of a fresh run failed: earlier ones are held, its name holds what it held or a first part, and no later one
+-- was tried
+pub record WritesPart (given : Given) (name : List ℕ) (before now : FilesState) : Type 0 where
+  pub answer : Answer
+  pub fresh : IsTheAnswer given answer
+  pub earlier : List Writing
+  pub half : Writing
+  pub later : List Writing
+  pub writes : answer.writes ≡ earlier ++ half ∷ later
+  pub same : half.name ≡ encode_utf8_all name
+  pub failed : HasFailed before (writing half.name) now
+  pub part : LeavesPart (record before { holds = Some (held_after given.held earlier) }) half.name half.bytes now
+
+-- a failed read is to blame: the last failed call is the read of the configuration, or of a name that the words ask for
+pub record IsUnread (words : List (List ℕ)) (name : List ℕ) (before now : FilesState) : Type 0 where
+  pub plan : LintPlan
+  pub asks : plan_of words ≡ Ok (Lint plan)
+  pub asked : (name ≡ plan.config) ⊎ IsOneOf plan.names name
+  pub failed : HasFailed before (reading (encode_utf8_all name)) now
+
+-- a failed write is to blame: the last failed call is the write of a name of which the words ask for fixes
+pub record IsUnwritten (words : List (List ℕ)) (name : List ℕ) (before now : FilesState) : Type 0 where
+  pub plan : LintPlan
+  pub asks : plan_of words ≡ Ok (Lint plan)
+  pub fixes : plan.mode ≢ Report
+  pub asked : IsOneOf plan.names name
+  pub failed : HasFailed before (writing (encode_utf8_all name)) now
+
+-- the files hold what they held, or what a fresh run leaves after some first ones of its writes, or one of these failed
 abbrev pub LeavesFiles : Given → FilesState → FilesState → Type 0
-LeavesFiles given before now = (now.holds ≡ before.holds) ⊎ (HoldsAsFresh given now ⊎ WritesPart given before now)
+LeavesFiles given before now = (now.holds ≡ before.holds) ⊎ (HoldsFirst given now ⊎ ((name : List ℕ) × WritesPart given name before now))
+
+-- printing the output of a fresh run failed: some first part of it went out
+pub record PrintsPart (given : Given) (before now : SinkState) : Type 0 where
+  pub answer : Answer
+  pub fresh : IsTheAnswer given answer
+  pub part : SentPart before answer.output now
+
+-- the whole output of a fresh run went out
+pub record PrintsAll (given : Given) (before now : SinkState) : Type 0 where
+  pub answer : Answer
+  pub fresh : IsTheAnswer given answer
+  pub all : now ≡ with_sent before answer.output
+
+-- nothing went out, or a part, or all
+abbrev pub PrintsSome : Given → SinkState → SinkState → Type 0
+PrintsSome given before now = (now ≡ before) ⊎ (PrintsPart given before now ⊎ PrintsAll given before now)
+
+-- the rules of the first kit listened at most as often as those of a fresh run
+abbrev pub ListensAtMostAsFresh : Given → List ℕ → List ℕ → Type 0
+ListensAtMostAsFresh given before now = (answer : Answer) → Fresh given answer → HeardAtMost answer.heard before now
+
+-- at most so many steps were taken as a fresh run lints files
+abbrev pub StepsAtMostAsFresh : Given → ℕ → ℕ → Type 0
+StepsAtMostAsFresh given before now = (answer : Answer) → Fresh given answer → now ≤ before + answer.linted
+
+-- the rules of the first kit listened as often as those of a fresh run
+pub record ListensAsFresh (given : Given) (before now : List ℕ) : Type 0 where
+  pub answer : Answer
+  pub fresh : IsTheAnswer given answer
+  pub listens : now ≡ first_heard answer.heard before
+
+-- so many steps were taken as a fresh run lints files
+pub record StepsAsFresh (given : Given) (before now : ℕ) : Type 0 where
+  pub answer : Answer
+  pub fresh : IsTheAnswer given answer
+  pub steps : now ≡ before + answer.linted
 
 -- no call failed
 pub record HasNotFailed (before now : FilesState) : Type 0 where
   pub faults : now.faults ≡ before.faults
   pub failed : now.failed ≡ before.failed
-
--- a failed read is to blame: the last failed call is the read of the file that the arguments name, which is this one
-pub record IsUnread (arguments : List (List ℕ)) (name : List ℕ) (before now : FilesState) : Type 0 where
-  pub mode : Mode
-  pub file : List ℕ
-  pub asked : Ask arguments mode file
-  pub same : name ≡ chars file
-  pub failed : HasFailed before (reading file) now
-
--- a failed write is to blame: the last failed call is the write of the file on which the arguments ask for fixes,
--- which is this one
-pub record IsUnwritten (arguments : List (List ℕ)) (name : List ℕ) (before now : FilesState) : Type 0 where
-  pub file : List ℕ
-  pub asked : Ask arguments FixAll file
-  pub same : name ≡ chars file
-  pub failed : HasFailed before (writing file) now
-
--- as many steps as before, or one more
-abbrev pub TakesAtMostOne : ℕ → ℕ → Type 0
-TakesAtMostOne before now = (now ≡ before) ⊎ (now ≡ before + 1)

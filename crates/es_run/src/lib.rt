@@ -1,12 +1,20 @@
-//! One run of the program, from its arguments and the held bytes to the printed report and the
-//! status.
+//! One run of the program, from its words and the held bytes to the printed report and the status.
 #![tactic(auto)]
 
-mod arguments;
+mod configuring;
 mod ending;
-mod report;
+mod gathering;
+mod generating;
+#[cfg(test)]
+mod generating_tests;
+#[cfg(test)]
+mod limit_tests;
+mod linting;
+mod reporting;
 mod runner;
 mod settings;
+#[cfg(test)]
+mod stage_tests;
 mod status;
 mod stopping;
 

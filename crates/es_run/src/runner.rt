@@ -1,95 +1,202 @@
-//! The run: arguments, file, report, status.
-ghost use Rattle.std.specs.Prelude.{◌≡◌, ◌≤◌, ◌+◌, ◌⊎◌, All, Err, map, string_bytes, length, OnOk, IfOk, IfErr};
+//! The run: words, plan, work, writes, print, status.
+ghost use Rattle.std.specs.Prelude.{◌≡◌, ◌≤◌, ◌+◌, ◌⊎◌, ℕ, List, All, Ok, Err, IfErr, IfOk, OnOk, length, map, string_bytes};
 ghost use Rattle.std.specs.Option.{ForSome};
-ghost use Rattle.es_files.specs.Outside.{FilesFailed, SinkFailed};
-ghost use Rattle.es_host.specs.Kits.{NeedsNoOptions};
-ghost use Rattle.es_run.specs.Arguments.{AskNoFixes, AskNothing};
-ghost use Rattle.es_run.specs.Kits.{HeardAtMost, first_meanings, lints_of, most_lintings, of_rules};
-ghost use Rattle.es_run.specs.Runs.{DoesAsFresh, HasNotFailed, HoldsAsFresh, IfCannotRead, IfCannotWrite, IsDone, IsRefused, IsReported, IsSettled, IsSilent, IsTold, IsUnlessNoMemory, IsUnread, IsUnwritten, IsWritten, LeavesFiles, ListensAsFresh, ListensAtMostAsFresh, PrintsPart, TakesAtMostOne, WritesPart, given, sinks};
-ghost use Rattle.es_run.specs.Stages.{Blames, Foretells, IfStops, IsAsked, IsPrepared, fault_of};
+ghost use Rattle.es_files.specs.Outside.{FilesFailed, SinkFailed, with_sent};
+ghost use Rattle.es_host.specs.Kits.{NeedsNoOptions, meanings_of};
+ghost use Rattle.es_plan.specs.Plans.{plan_of};
+ghost use Rattle.es_plan.specs.declared.plan.PlanFault.{PlanFault};
+ghost use Rattle.es_run.specs.Courses.{Goes, counts, scene};
+ghost use Rattle.es_run.specs.Ends.{world};
+ghost use Rattle.es_run.specs.Kits.{HeardAtMost, first_meanings, lints_of, of_rules};
+ghost use Rattle.es_run.specs.Runs.{AskNoFixes, DoesAsFresh, HasNotFailed, HoldsAsFresh, IfCannotRead, IfCannotWrite, IsDone, IsRefused, IsReported, IsSettled, IsSilent, IsTold, IsUnlessNoMemory, IsUnread, IsUnwritten, IsWritten, LeavesFiles, ListensAsFresh, ListensAtMostAsFresh, PrintsPart, PrintsSome, SetNoLimit, StepsAsFresh, StepsAtMostAsFresh, WritesPart, config_of, given, most_lintings, most_steps, sinks};
 ghost use Rattle.es_run.specs.Statuses.{fault_line};
+ghost use Rattle.es_run.specs.Works.{Worked, kit_counts, plan_in};
 
-use crate::arguments::asked_of;
+use crate::configuring::configure;
 use crate::ending::end;
-use crate::report::{Outcome, report_on};
+use crate::gathering::gather;
+use crate::generating::generate;
+use crate::linting::lint_all;
+use crate::reporting::{Made, Manner, make};
 use crate::status::{Fault, Status, StopCause};
-use crate::stopping::{no_memory, refuse};
-use es_files::{Files, ReadFault, Sink};
+use crate::stopping::{no_memory, refuse, tell};
+use es_files::{Files, Sink};
 use es_host::{Kit, Rule};
-use es_text::{Steps, Txt};
+use es_plan::{LintPlan, Plan, PlanFault, read_plan};
+use es_settings::Mode;
+use es_text::{Items, NoMemory, Steps, Txt};
 use std::alloc::Global;
 use std::sync::ledger::Ledger;
 
-/// The most bytes of a file that is read.
-const MOST_BYTES: u64 = 2_097_152;
+/// What a run is to do with the names under its configuration.
+struct Task {
+    inline: bool,
+    mode: Mode,
+    manner: Manner,
+    names: Items<Txt>,
+}
 
-/// What a fault of reading the name is to the run.
-fn fault_of(fault: ReadFault, name: Txt) -> Fault
-    ensures { result ≡ fault_of fault name }
+/// All that a run of a plan does before it writes anything.
+fn work<R: Rule, F: Files, L: Ledger>(
+    alloc: Global,
+    config_name: &Txt,
+    task: Task,
+    kit: &mut Kit<R>,
+    files: &mut F,
+    steps: &mut Steps<L>,
+) -> Result<Made, Fault>
+    requires options { NeedsNoOptions R.meaning kit.old }
+    ensures worked { Worked (meanings_of R.meaning kit.old) (plan_in config_name.now task)
+        (F.state files.old) (F.state files.new)
+        (kit_counts kit.old.lints steps.old) (kit_counts kit.new.lints steps.new) result }
+    ensures same { meanings_of R.meaning kit.new ≡ meanings_of R.meaning kit.old }
 {
-    match fault {
-        ReadFault::Missing => Fault::Stop(StopCause::NoFile { name }),
-        ReadFault::TooLong => Fault::Stop(StopCause::TooLong { name }),
-        ReadFault::Failed => Fault::Stop(StopCause::CannotRead { name }),
-        ReadFault::NoMemory => Fault::NoMemory,
+    let Task {
+        inline,
+        mode,
+        manner,
+        names,
+    } = task;
+    let config = match configure(alloc, config_name, kit, files) {
+        Ok(config) => config,
+        Err(fault) => return Err(fault),
+    };
+    let parts = match gather(alloc, &config, inline, names, files) {
+        Ok(parts) => parts,
+        Err(fault) => return Err(fault),
+    };
+    let Ok(results) = lint_all(alloc, parts, mode, kit, steps) else {
+        return Err(Fault::NoMemory);
+    };
+    match make(alloc, config_name, manner, results) {
+        Ok(made) => Ok(made),
+        Err(NoMemory) => Err(Fault::NoMemory),
     }
 }
 
-/// What the first kit says of the file that the arguments name, and what is to be written of it.
-fn lint<R: Rule, F: Files, L: Ledger>(
+/// Runs a plan.
+fn run_plan<R: Rule, F: Files, O: Sink, E: Sink, L: Ledger>(
+    alloc: Global,
+    plan: LintPlan,
+    kits: &mut Vec<Kit<R>>,
+    files: &mut F,
+    out: &mut O,
+    err: &mut E,
+    steps: &mut Steps<L>,
+) -> Status
+    requires kits { 1 ≤ length kits.old.items }
+    requires options { All (NeedsNoOptions R.meaning) kits.old.items }
+    ensures goes { (words : List (List ℕ)) → plan_of words ≡ Ok (Plan.Lint plan) →
+        Goes (first_meanings R.meaning kits.old.items) words
+        (scene (world (F.state files.old) (O.state out.old) (E.state err.old)) (counts (lints_of kits.old.items) steps.old))
+        (scene (world (F.state files.new) (O.state out.new) (E.state err.new)) (counts (lints_of kits.new.items) steps.new))
+        result }
+    ensures meanings { of_rules R.meaning kits.new.items ≡ of_rules R.meaning kits.old.items }
+{
+    let LintPlan {
+        config,
+        json,
+        mode,
+        quiet,
+        max_warnings,
+        inline,
+        names,
+    } = plan;
+    let manner = Manner {
+        json,
+        quiet,
+        limit: max_warnings,
+    };
+    let asked = Task {
+        inline,
+        mode,
+        manner,
+        names,
+    };
+    match work(alloc, &config, asked, &mut kits[0], files, steps) {
+        Ok(made) => end(alloc, &config, made, files, out, err),
+        Err(Fault::Stop(cause)) => refuse(alloc, &config, cause, err),
+        Err(Fault::NoMemory) => no_memory(alloc, err),
+    }
+}
+
+/// Makes a text of so many lines and lints it, without a configuration.
+fn run_text<R: Rule, F: Files, O: Sink, E: Sink, L: Ledger>(
+    alloc: Global,
+    count: u32,
+    kits: &mut Vec<Kit<R>>,
+    files: &mut F,
+    out: &mut O,
+    err: &mut E,
+    steps: &mut Steps<L>,
+) -> Status
+    requires few { count ≤ 10000 }
+    requires kits { 1 ≤ length kits.old.items }
+    requires options { All (NeedsNoOptions R.meaning) kits.old.items }
+    ensures goes { (words : List (List ℕ)) → plan_of words ≡ Ok (Plan.Generate count) →
+        Goes (first_meanings R.meaning kits.old.items) words
+        (scene (world (F.state files.old) (O.state out.old) (E.state err.old)) (counts (lints_of kits.old.items) steps.old))
+        (scene (world (F.state files.new) (O.state out.new) (E.state err.new)) (counts (lints_of kits.new.items) steps.new))
+        result }
+    ensures meanings { of_rules R.meaning kits.new.items ≡ of_rules R.meaning kits.old.items }
+{
+    let no_config = match Txt::new(alloc, "") {
+        Ok(name) => name,
+        Err(NoMemory) => return no_memory(alloc, err),
+    };
+    match generate(alloc, count, &mut kits[0], steps) {
+        Ok(made) => end(alloc, &no_config, made, files, out, err),
+        Err(NoMemory) => no_memory(alloc, err),
+    }
+}
+
+/// Makes of the words what a run does before it writes anything, writes and prints it, or stops.
+fn go<R: Rule, F: Files, O: Sink, E: Sink, L: Ledger>(
     alloc: Global,
     words: &[String],
     kits: &mut Vec<Kit<R>>,
     files: &mut F,
+    out: &mut O,
+    err: &mut E,
     steps: &mut Steps<L>,
-) -> Result<Outcome, Fault>
+) -> Status
     requires kits { 1 ≤ length kits.old.items }
     requires options { All (NeedsNoOptions R.meaning) kits.old.items }
-    ensures same { (F.state files.new).holds ≡ (F.state files.old).holds }
+    ensures goes { Goes (first_meanings R.meaning kits.old.items) (map string_bytes words.now)
+        (scene (world (F.state files.old) (O.state out.old) (E.state err.old)) (counts (lints_of kits.old.items) steps.old))
+        (scene (world (F.state files.new) (O.state out.new) (E.state err.new)) (counts (lints_of kits.new.items) steps.new))
+        result }
     ensures meanings { of_rules R.meaning kits.new.items ≡ of_rules R.meaning kits.old.items }
-    ensures fresh { ForSome (F.state files.old).holds (λ held.
-        Foretells (given (first_meanings R.meaning kits.old.items) words.now held)
-        (lints_of kits.old.items) (lints_of kits.new.items) result) }
-    ensures lintings { ForSome (F.state files.old).holds (λ held.
-        ListensAtMostAsFresh (given (first_meanings R.meaning kits.old.items) words.now held)
-        (lints_of kits.old.items) (lints_of kits.new.items)) }
-    ensures most { HeardAtMost most_lintings (lints_of kits.old.items) (lints_of kits.new.items) }
-    ensures once { AskNoFixes (map string_bytes words.now) →
-        HeardAtMost 1 (lints_of kits.old.items) (lints_of kits.new.items) }
-    ensures rests { IfStops result (lints_of kits.new.items ≡ lints_of kits.old.items) }
-    ensures prepared { IfOk result (λ outcome. ForSome outcome.write IsPrepared) }
-    ensures asked { IfOk result (λ outcome.
-        ForSome outcome.write (IsAsked (map string_bytes words.now))) }
-    ensures blame { IfErr result
-        (Blames (map string_bytes words.now) (F.state files.old) (F.state files.new)) }
-    ensures still { OnOk result (F.state files.new ≡ F.state files.old) }
-    ensures nothing { AskNothing (map string_bytes words.now) →
-        result ≡ Err (Fault.Stop StopCause.BadWords) }
-    ensures later { (F.state files.old).faults ≤ (F.state files.new).faults }
-    ensures ticked { OnOk result (steps.new ≡ steps.old + 1) }
-    ensures no_tick { IfStops result (steps.new ≡ steps.old) }
-    ensures tick { TakesAtMostOne steps.old steps.new }
 {
-    let Some((mode, file)) = asked_of(words) else {
-        return Err(Fault::Stop(StopCause::BadWords));
-    };
-    let name = Txt::new(alloc, file)?;
-    let bytes = match files.read(alloc, file, MOST_BYTES) {
-        Ok(bytes) => bytes,
-        Err(fault) => return Err(fault_of(fault, name)),
-    };
-    Ok(report_on(alloc, file, bytes.as_slice(), mode, &mut kits[0], steps)?)
+    match read_plan(alloc, words) {
+        Ok(Plan::Lint(plan)) => run_plan(alloc, plan, kits, files, out, err, steps),
+        Ok(Plan::Generate { count }) => run_text(alloc, count, kits, files, out, err, steps),
+        Err(PlanFault::BadWords) => {
+            tell(
+                alloc,
+                Status::Stopped(StopCause::BadWords),
+                "esl: bad arguments\n",
+                err,
+            )
+        }
+        Err(PlanFault::TooMany { names }) => {
+            let cause = StopCause::TooMany { names };
+            tell(alloc, Status::Stopped(cause), "esl: too many names\n", err)
+        }
+        Err(PlanFault::NoMemory) => no_memory(alloc, err),
+    }
 }
 
-/// Lints the file that the arguments `words` name with the first kit: optionally `--fix`, which asks for
-/// fixes, and then the name; the program's own name is none of them. It writes the file where fixes
-/// changed its text, and prints the report on what is left on `out`, as one piece, also where it is
-/// empty. Linting a file takes one step.
+/// Runs the program on these words, without its own name, with the rules of the first kit.
 ///
-/// The whole report is made before the file is written, and nothing is printed before that. A run that
-/// stops tells its cause on `err`, in one line. It prints nothing, or a first part where printing
-/// failed; and it writes nothing, or all, or where writing failed the file holds what it held or a
-/// first part. No rule changes its meaning.
+/// It lints the files that the words name under their configuration: it reads the configuration, decides each name in
+/// order and reads those that are linted, each as one step; lints them; makes the report; writes the files whose texts
+/// fixes changed, in order; prints the report as one piece, also where it is empty; and tells on `err` where there are
+/// more warnings than the words let be and no error. Or it makes a text of so many lines and lints that, as one step.
+///
+/// A file that isn't linted isn't read, and has one warning. Nothing is written before the whole report is made, and
+/// nothing is printed before all is written. A run that stops tells its cause on `err`, in one line. No rule changes
+/// its meaning.
 pub fn run<R: Rule, F: Files, O: Sink, E: Sink, L: Ledger>(
     alloc: Global,
     words: &[String],
@@ -117,19 +224,23 @@ pub fn run<R: Rule, F: Files, O: Sink, E: Sink, L: Ledger>(
         (SinkFailed (O.state out.old) (O.state out.new) → ⊥) →
         IsSettled result ⊎ (result ≡ Status.NoMemory) }
 
-    // The arguments alone decide on `BadWords`.
+    // The words alone decide on `BadWords` and `TooMany`.
     ensures bad_words { result ≡ Status.Stopped StopCause.BadWords →
-        AskNothing (map string_bytes words.now) }
-    ensures nothing { AskNothing (map string_bytes words.now) →
+        plan_of (map string_bytes words.now) ≡ Err PlanFault.BadWords }
+    ensures refused_words { plan_of (map string_bytes words.now) ≡ Err PlanFault.BadWords →
         IsUnlessNoMemory (Status.Stopped StopCause.BadWords) result }
+    ensures too_many { (names : ℕ) → result ≡ Status.Stopped (StopCause.TooMany names) →
+        plan_of (map string_bytes words.now) ≡ Err (PlanFault.TooMany names) }
+    ensures refused_names { (names : ℕ) → plan_of (map string_bytes words.now) ≡ Err (PlanFault.TooMany names) →
+        IsUnlessNoMemory (Status.Stopped (StopCause.TooMany names)) result }
 
     // A fault of the outside is to blame on a failed call.
     ensures cannot_read { IfCannotRead result (λ name.
         IsUnread (map string_bytes words.now) name (F.state files.old) (F.state files.new)) }
     ensures cannot_write { IfCannotWrite result (λ name.
         IsUnwritten (map string_bytes words.now) name (F.state files.old) (F.state files.new)) }
-    ensures half { IfCannotWrite result (λ _. ForSome (F.state files.old).holds (λ held.
-        WritesPart (given (first_meanings R.meaning kits.old.items) words.now held)
+    ensures half { IfCannotWrite result (λ name. ForSome (F.state files.old).holds (λ held.
+        WritesPart (given (first_meanings R.meaning kits.old.items) words.now held) name
         (F.state files.old) (F.state files.new))) }
     ensures cannot_print { result ≡ Status.Stopped StopCause.CannotPrint →
         SinkFailed (O.state out.old) (O.state out.new) }
@@ -138,21 +249,19 @@ pub fn run<R: Rule, F: Files, O: Sink, E: Sink, L: Ledger>(
         PrintsPart (given (first_meanings R.meaning kits.old.items) words.now held)
         (O.state out.old) (O.state out.new)) }
 
-    // Each cause has its line, and a run that prints its report tells nothing.
+    // Each cause has its line, and a run that prints its report tells nothing where no limit is set.
     ensures told { (cause : StopCause) → result ≡ Status.Stopped cause →
-        IsTold (E.state err.old) (fault_line cause) (E.state err.new) }
-    ensures quiet { IsDone result → E.state err.new ≡ E.state err.old }
+        IsTold (E.state err.old) (fault_line (config_of (map string_bytes words.now)) cause) (E.state err.new) }
+    ensures quiet { IsDone result → SetNoLimit (map string_bytes words.now) →
+        E.state err.new ≡ E.state err.old }
 
-    // What a run leaves of the output and of the counts.
+    // What a run leaves of the output and of the counts of failures.
     ensures silent { IsSilent result → O.state out.new ≡ O.state out.old }
     ensures no_failure { IsDone result →
         HasNotFailed (F.state files.old) (F.state files.new) }
     ensures all_printed { IsDone result → (O.state out.new).faults ≡ (O.state out.old).faults }
-    ensures no_memory { result ≡ Status.NoMemory →
-        (O.state out.new ≡ O.state out.old) ⊎ SinkFailed (O.state out.old) (O.state out.new) }
-    ensures no_more { result ≡ Status.NoMemory → ForSome (F.state files.old).holds (λ held.
-        (O.state out.new ≡ O.state out.old)
-        ⊎ PrintsPart (given (first_meanings R.meaning kits.old.items) words.now held)
+    ensures some_printed { result ≡ Status.NoMemory → ForSome (F.state files.old).holds (λ held.
+        PrintsSome (given (first_meanings R.meaning kits.old.items) words.now held)
         (O.state out.old) (O.state out.new)) }
 
     // What it leaves of the files: only `--fix` writes, and only what a fresh run writes.
@@ -166,7 +275,7 @@ pub fn run<R: Rule, F: Files, O: Sink, E: Sink, L: Ledger>(
     // A run changes no meaning of a rule of the kits.
     ensures meanings { of_rules R.meaning kits.new.items ≡ of_rules R.meaning kits.old.items }
 
-    // The first kit listens to each text of the file that is parsed, and no other ever listens.
+    // The first kit listens to each text that is parsed, and no other ever listens.
     ensures listens { IsReported result → ForSome (F.state files.old).holds (λ held.
         ListensAsFresh (given (first_meanings R.meaning kits.old.items) words.now held)
         (lints_of kits.old.items) (lints_of kits.new.items)) }
@@ -174,18 +283,18 @@ pub fn run<R: Rule, F: Files, O: Sink, E: Sink, L: Ledger>(
     ensures lintings { ForSome (F.state files.old).holds (λ held.
         ListensAtMostAsFresh (given (first_meanings R.meaning kits.old.items) words.now held)
         (lints_of kits.old.items) (lints_of kits.new.items)) }
-    ensures most { HeardAtMost most_lintings (lints_of kits.old.items) (lints_of kits.new.items) }
-    ensures once { AskNoFixes (map string_bytes words.now) →
-        HeardAtMost 1 (lints_of kits.old.items) (lints_of kits.new.items) }
+    ensures most { HeardAtMost (most_lintings (map string_bytes words.now))
+        (lints_of kits.old.items) (lints_of kits.new.items) }
 
-    // Linting the file is one step, and a run that doesn't come to that takes none.
-    ensures ticked { IsReported result → steps.new ≡ steps.old + 1 }
+    // Linting a file is one step, and a run that doesn't come to that takes none.
+    ensures ticked { IsReported result → ForSome (F.state files.old).holds (λ held.
+        StepsAsFresh (given (first_meanings R.meaning kits.old.items) words.now held)
+        steps.old steps.new) }
     ensures no_tick { IsRefused result → steps.new ≡ steps.old }
-    ensures tick { TakesAtMostOne steps.old steps.new }
+    ensures ticks { ForSome (F.state files.old).holds (λ held.
+        StepsAtMostAsFresh (given (first_meanings R.meaning kits.old.items) words.now held)
+        steps.old steps.new) }
+    ensures few_ticks { steps.new ≤ steps.old + most_steps (map string_bytes words.now) }
 {
-    match lint(alloc, words, kits, files, steps) {
-        Ok(outcome) => end(alloc, outcome, files, out, err),
-        Err(Fault::Stop(cause)) => refuse(alloc, cause, err),
-        Err(Fault::NoMemory) => no_memory(alloc, err),
-    }
+    go(alloc, words, kits, files, out, err, steps)
 }

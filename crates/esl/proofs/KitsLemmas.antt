@@ -1,5 +1,5 @@
 -- Kits whose rules mean the same as before.
-use Rattle.std.proofs.Common.{◌≡◌, zero, suc, List, [], ◌∷◌, All, map, sym, subst, arith}
+use Rattle.std.proofs.Common.{◌≡◌, ◌∙◌, ◌<◌, ◌^◌, zero, suc, List, [], ◌∷◌, ◌++◌, All, ap, length, map, sym, subst, arith}
 use Rattle.es_settings.specs.declared.verdict.Verdict.TheVariants.{Fine}
 use Rattle.es_host.specs.Kits.{KitOf, NeedsNoOptions}
 use Rattle.es_host.specs.Meanings.{Meaning}
@@ -50,3 +50,11 @@ all_listed P items listed same each = subst (All P) (sym same) (each_all P liste
 pub at_vtable : {X : Type 0} {Held : X → Type 0} (P : (v : X) → Held v → Type 0) (v w : X) → v ≡ w → ((x : Held w) → P w x) → (x : Held v) → P v x
 at_vtable {X} {Held} P v w same at x =
     let Q : X → Type 0 = λ u. (y : Held u) → P u y in subst Q (sym same) at x
+
+-- a list that is known, and one more
+pub more : {R : Type 0} {before after listed : List R} (item : R) → after ≡ before ++ item ∷ [] → before ≡ listed → after ≡ listed ++ item ∷ []
+more item pushed same = pushed ∙ ap (λ list. list ++ item ∷ []) same
+
+-- as long as an equal one
+pub few_listed : {R : Type 0} (items listed : List R) → items ≡ listed → length listed < 2 ^ 32 → length items < 2 ^ 32
+few_listed items listed same few = subst (λ list. length list < 2 ^ 32) (sym same) few

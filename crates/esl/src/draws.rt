@@ -45,12 +45,12 @@ impl Draws {
 }
 
 impl Rule for Draws {
-    ghost use Rattle.std.specs.Prelude.{[], codes};
+    ghost use Rattle.std.specs.Prelude.{[], codes, if◌then◌else◌};
     ghost use Rattle.std.specs.Str.{chars};
     ghost use Rattle.es_host.specs.Nodes.{takes_none};
 
     ghost meaning = { λ rule. record {
-      id = chars (codes "draws");
+      id = chars (if rule.odd then codes "odds" else codes "evens");
       verdict = takes_none;
       interest = λ options. rule.selectors.items;
       says = λ file options. [];
@@ -59,7 +59,7 @@ impl Rule for Draws {
     ghost heard = { λ _ _ _ _. Unit {0} };
 
     fn id(&self) -> &str {
-        "draws"
+        if self.odd { "odds" } else { "evens" }
     }
 
     fn verdict(&self, _alloc: Global, options: &[Value]) -> Result<Verdict, NoMemory> {

@@ -1,16 +1,20 @@
 //! Runs with `--fix` over files in memory. What is left and printed is worked out by hand.
-ghost use Rattle.std.specs.Prelude.{◌≡◌, ◌<◌, ◌^◌, All, [], length, IfOk};
+ghost use Rattle.std.specs.Prelude.{◌≡◌, ◌<◌, ◌^◌, All, [], length};
 ghost use Rattle.es_settings.specs.declared.verdict.Verdict.TheVariants.{Fine};
 
-use crate::tests::{Ran, expect, files_of, run_over, status_of};
+use crate::tests::{files_of, status_of};
 use crate::watch::{ToArray, ToThis};
-use es_files::{MemoryFiles, MemorySink};
+use es_files::MemorySink;
 use es_host::{EachFile, EachNode, Kit, Rule};
 use es_rules_plain::{EolLast, NoDebugger, NoExtraSemi, NoTrailingSpaces, Semi};
 use es_run::status_code;
 use std::alloc::Global;
 use std::process::Abort;
 use std::test::Fail;
+
+static CONFIG: &str =
+    r#"{"rules": {"semi": 2, "no-extra-semi": 2, "eol-last": 2, "no-trailing-spaces": 2,
+    "no-debugger": 2, "array": 2, "this": 2}}"#;
 
 /// The bytes of `a.js`, what it holds after a run with `--fix`, what is printed of it then, and the status.
 struct Case {
@@ -126,7 +130,7 @@ fn expect_fixed<R: Rule>(
     let mut kits = Vec::new(alloc);
     kits.push(Kit::new(rules))?;
     for case in cases {
-        let mut files = files_of(alloc, "a.js", case.bytes)?;
+        let mut files = files_of(alloc, CONFIG, "a.js", case.bytes)?;
         let (mut out, mut err) = (MemorySink::new(alloc)?, MemorySink::new(alloc)?);
         let words = ["--fix", "a.js"];
         let status = status_of(alloc, &words, &mut kits, &mut files, &mut out, &mut err)?;
@@ -149,108 +153,4 @@ fn files_are_fixed(rt: HostRuntime) -> Result<(), Fail> {
     rules.push(Box::new(alloc, EachNode::new(alloc, ToArray))?)?;
     rules.push(Box::new(alloc, EachNode::new(alloc, ToThis))?)?;
     expect_fixed(&rt, alloc, rules, &CASES)
-}
-
-/// A kit of one rule, which has a fix.
-fn semi_alone(alloc: Global) -> Result<Vec<EachNode<Semi>>, Fail>
-    ensures { IfOk result (λ rules. length rules.items ≡ 1) }
-{
-    let mut rules = Vec::new(alloc);
-    rules.push(EachNode::new(alloc, Semi))?;
-    Ok(rules)
-}
-
-/// What a run of that kit does with `a.js` and these arguments.
-fn run_alone(
-    alloc: Global,
-    words: &[&str],
-    files: &mut MemoryFiles,
-    left: Option<u64>,
-) -> Result<Ran, Fail> {
-    run_over(alloc, words, semi_alone(alloc)?, files, left)
-}
-
-// How many bytes a failed write leaves, and what the file holds then.
-static LEFT: [(u64, &[u8]); 5] = [(0, b""), (1, b"a"), (2, b"a;"), (3, b"a;\n"), (9, b"a;\n")];
-
-/// A failed write stops the run: nothing is printed, and no other write is tried.
-#[test]
-fn a_failed_write_stops_a_run(rt: HostRuntime) -> Result<(), Fail> {
-    let alloc = rt.alloc();
-    for &(left, held) in &LEFT {
-        let mut files = files_of(alloc, "a.js", b"a\n")?;
-        files.fail(alloc, true, 1, left)?;
-        let ran = run_alone(alloc, &["--fix", "a.js"], &mut files, None)?;
-        expect(&rt, &ran, 2, "", "esl: cannot write: a.js\n");
-        assert_eq!(rt; files.held("a.js"), Some(held));
-    }
-    Ok(())
-}
-
-// Arguments and what `a.js` holds; the first write would fail. Without `--fix`, or where no fix changes the
-// text, none is tried.
-static UNWRITTEN: [(&[&str], &[u8], &str, u8); 2] = [
-    (
-        &["a.js"],
-        b"a\n",
-        "
-a.js
-  1:2  error  Missing semicolon.  semi
-
-✖ 1 problem (1 error, 0 warnings)
-  1 error and 0 warnings potentially fixable with the `--fix` option.
-",
-        1,
-    ),
-    (&["--fix", "a.js"], b"a;\n", "", 0),
-];
-
-#[test]
-fn only_what_changes_is_written(rt: HostRuntime) -> Result<(), Fail> {
-    let alloc = rt.alloc();
-    for &(words, bytes, report, status) in &UNWRITTEN {
-        let mut files = files_of(alloc, "a.js", bytes)?;
-        files.fail(alloc, true, 1, 0)?;
-        let ran = run_alone(alloc, words, &mut files, None)?;
-        expect(&rt, &ran, status, report, "");
-        assert_eq!(rt; files.held("a.js"), Some(bytes));
-    }
-    Ok(())
-}
-
-/// The file is written before the report is printed.
-#[test]
-fn a_failed_print_comes_after_the_write(rt: HostRuntime) -> Result<(), Fail> {
-    let alloc = rt.alloc();
-    let mut files = files_of(alloc, "a.js", b"a\n")?;
-    let ran = run_alone(alloc, &["--fix", "a.js"], &mut files, Some(0))?;
-    expect(&rt, &ran, 2, "", "esl: cannot print\n");
-    assert_eq!(rt; files.held("a.js"), Some(b"a;\n".as_slice()));
-    Ok(())
-}
-
-static BAD: [&[&str]; 11] = [
-    &[],
-    &[""],
-    &["-"],
-    &["--fix"],
-    &["--fix", ""],
-    &["--fix", "-a.js"],
-    &["--fix", "--fix"],
-    &["--fix", "a.js", "a.js"],
-    &["a.js", "--fix"],
-    &["a.js", "a.js"],
-    &["--fixes", "a.js"],
-];
-
-#[test]
-fn other_arguments_are_bad(rt: HostRuntime) -> Result<(), Fail> {
-    let alloc = rt.alloc();
-    for words in &BAD {
-        let mut files = files_of(alloc, "a.js", b"a\n")?;
-        let ran = run_alone(alloc, words, &mut files, None)?;
-        expect(&rt, &ran, 2, "", "esl: bad arguments\n");
-        assert_eq!(rt; files.held("a.js"), Some(b"a\n".as_slice()));
-    }
-    Ok(())
 }

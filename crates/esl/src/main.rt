@@ -1,5 +1,5 @@
-//! The program `esl`: lints the file that its arguments name with the rules that it boxes here, and
-//! ends with the status of the run.
+//! The program `esl`: runs on its arguments with the rules that it boxes here, and ends with the
+//! status of the run.
 #![tactic(auto)]
 
 ghost use Rattle.std.specs.Prelude.{◌≡◌, ◌≢◌, ◌<◌, ◌^◌, All, [], length};
@@ -13,6 +13,7 @@ use es_rules_plain::{
     NoExtraSemi, NoRestrictedSyntax, NoSparseArrays, NoTrailingSpaces, NoUnsafeFinally,
     NoUnsafeNegation, Semi, ValidTypeof,
 };
+use es_rules_scope::{NoConstAssign, NoUndef, NoUnusedLabels, NoUnusedVars};
 use es_run::{Status, StopCause};
 use es_text::{NoMemory, Steps};
 use std::io::ErrorKind;
@@ -62,6 +63,10 @@ fn lint(rt: &HostRuntime, arguments: &[String]) -> Result<Status, NoMemory> {
     rules.push(Box::new(alloc, EachNode::new(alloc, NoSparseArrays))?)?;
     rules.push(Box::new(alloc, EachNode::new(alloc, DefaultCaseLast))?)?;
     rules.push(Box::new(alloc, EachNode::new(alloc, NoRestrictedSyntax::new(alloc)))?)?;
+    rules.push(Box::new(alloc, EachFile::new(NoUndef))?)?;
+    rules.push(Box::new(alloc, EachFile::new(NoConstAssign))?)?;
+    rules.push(Box::new(alloc, EachFile::new(NoUnusedVars))?)?;
+    rules.push(Box::new(alloc, EachFile::new(NoUnusedLabels))?)?;
     run_over(rt, arguments, rules)
 }
 

@@ -5,8 +5,8 @@ ghost use Rattle.es_host.specs.Kits.{NeedsNoOptions};
 use crate::draws::Draws;
 use crate::watch::{WatchEmpty, WatchNames};
 use es_files::{MemoryFiles, MemorySink, Sink, SinkFault, SureSink};
-use es_host::{EachFile, EachNode, Kit, Rule};
-use es_rules_plain::{EolLast, NoDebugger};
+use es_host::{EachNode, Kit, Rule};
+use es_rules_plain::NoDebugger;
 use es_run::{Status, run, status_code};
 use es_text::Steps;
 use std::alloc::Global;
@@ -77,14 +77,12 @@ pub(crate) fn status_of<R: Rule, O: Sink, E: Sink>(
     Ok(counted_run::<R, O, E, Brand>(alloc, arguments.as_slice(), kits, files, out, err, blank))
 }
 
-/// Runs the rules with these arguments. The output takes the first `left` bytes of its first call, which
-/// then fails.
+/// Runs the rules with these arguments.
 pub(crate) fn run_over<R: Rule>(
     alloc: Global,
     words: &[&str],
     rules: Vec<R>,
     files: &mut MemoryFiles,
-    left: Option<u64>,
 ) -> Result<Ran, Fail>
     requires few { length rules.items < 2 ^ 32 }
     requires options { All (λ rule. (R.meaning rule).verdict [] ≡ Fine) rules.items }
@@ -93,9 +91,6 @@ pub(crate) fn run_over<R: Rule>(
     kits.push(Kit::new(rules))?;
     let mut out = MemorySink::new(alloc)?;
     let mut err = MemorySink::new(alloc)?;
-    if let Some(left) = left {
-        out.fail(alloc, 1, left)?;
-    }
     let status = status_of(alloc, words, &mut kits, files, &mut out, &mut err)?;
     let lints = kits[0].lints();
     Ok(Ran {
@@ -115,9 +110,15 @@ fn plain_rules(alloc: Global) -> Result<Vec<EachNode<NoDebugger>>, Fail>
     Ok(rules)
 }
 
-/// Files in memory, of which this one holds the text.
-pub(crate) fn files_of(alloc: Global, name: &str, text: &[u8]) -> Result<MemoryFiles, Fail> {
+/// Files in memory: a configuration, and this one, which holds the text.
+pub(crate) fn files_of(
+    alloc: Global,
+    config: &str,
+    name: &str,
+    text: &[u8],
+) -> Result<MemoryFiles, Fail> {
     let mut files = MemoryFiles::new(alloc)?;
+    files.hold(alloc, "eslint.config.json", config.as_bytes())?;
     files.hold(alloc, name, text)?;
     Ok(files)
 }
@@ -127,144 +128,6 @@ pub(crate) fn expect(rt: &impl Abort, ran: &Ran, status: u8, out: &str, err: &st
     assert_eq!(rt; status_code(&ran.status), status);
     assert_eq!(rt; ran.out.got(), out.as_bytes());
     assert_eq!(rt; ran.err.got(), err.as_bytes());
-}
-
-/// A file with its text, what is printed of it, the exit status, and whether the rule was heard.
-struct Case {
-    name: &'static str,
-    text: &'static str,
-    report: &'static str,
-    status: u8,
-    heard: bool,
-}
-
-// The places are counted by hand. A text that isn't parsed has one message, whatever stands before.
-static CASES: [Case; 10] = [
-    Case {
-        name: "a.js",
-        text: "a()\n",
-        report: "",
-        status: 0,
-        heard: true,
-    },
-    Case {
-        name: "a.js",
-        text: "\tdebugger\t;",
-        report: "
-a.js
-  1:2  error  Unexpected 'debugger' statement.  no-debugger
-
-✖ 1 problem (1 error, 0 warnings)
-",
-        status: 1,
-        heard: true,
-    },
-    Case {
-        name: "a.js",
-        text: "{ debugger; ; } debugger;",
-        report: "
-a.js
-  1:3   error  Unexpected 'debugger' statement.  no-debugger
-  1:17  error  Unexpected 'debugger' statement.  no-debugger
-
-✖ 2 problems (2 errors, 0 warnings)
-",
-        status: 1,
-        heard: true,
-    },
-    Case {
-        name: "a.cjs",
-        text: "return;\n",
-        report: "",
-        status: 0,
-        heard: true,
-    },
-    Case {
-        name: "a.js",
-        text: "debugger; let a; var a;\n",
-        report: "
-a.js
-  1:22  error  Parsing error: early error E5.
-
-✖ 1 problem (1 error, 0 warnings)
-",
-        status: 1,
-        heard: false,
-    },
-    Case {
-        name: "a.js",
-        text: "debugger;\n  a b;\n",
-        report: "
-a.js
-  2:3  error  Parsing error: unreadable item.
-
-✖ 1 problem (1 error, 0 warnings)
-",
-        status: 1,
-        heard: false,
-    },
-    Case {
-        name: "a.js",
-        text: "// eslint-disable-next-line no-debugger\na;\n",
-        report: "
-a.js
-  1:1  warning  Unused eslint-disable directive (no problems were reported from 'no-debugger').
-
-✖ 1 problem (0 errors, 1 warning)
-",
-        status: 0,
-        heard: true,
-    },
-    Case {
-        name: "a.js",
-        text: "/* eslint-disable no-debugger */ debugger;\n/* eslint-enable */ debugger;\n",
-        report: "
-a.js
-  2:21  error  Unexpected 'debugger' statement.  no-debugger
-
-✖ 1 problem (1 error, 0 warnings)
-",
-        status: 1,
-        heard: true,
-    },
-    Case {
-        name: "a.js",
-        text: "debugger; /* eslint 'no-debugger': \"off\", no-debugger: 1 */\n/* eslint semi: 2, a */\n",
-        report: "
-a.js
-  1:1  warning  Unexpected 'debugger' statement.  no-debugger
-  2:1  error    Bad inline entry 'a'.
-  2:1  error    Bad inline entry 'semi: 2'.
-
-✖ 3 problems (2 errors, 1 warning)
-",
-        status: 1,
-        heard: true,
-    },
-    Case {
-        name: "a.js",
-        text: "debugger; // eslint-disable-line -- kept\n/* eslint no-debugger: 0 */",
-        report: "
-a.js
-  1:11  warning  Unused eslint-disable directive (no problems were reported).
-
-✖ 1 problem (0 errors, 1 warning)
-",
-        status: 0,
-        heard: true,
-    },
-];
-
-#[test]
-fn reports(rt: HostRuntime) -> Result<(), Fail> {
-    for case in &CASES {
-        let mut files = files_of(rt.alloc(), case.name, case.text.as_bytes())?;
-        let rules = plain_rules(rt.alloc())?;
-        let ran = run_over(rt.alloc(), &[case.name], rules, &mut files, None)?;
-        expect(&rt, &ran, case.status, case.report, "");
-        assert_eq!(rt; ran.lints, u64::from(case.heard), "{}", case.text);
-    }
-    Ok(())
 }
 
 static TWO_RULES: &str = "
@@ -284,28 +147,14 @@ fn reports_of_two_rules_stand_by_their_places(rt: HostRuntime) -> Result<(), Fai
     let mut rules: Vec<Box<dyn Rule + Send>> = Vec::new(alloc);
     rules.push(Box::new(alloc, EachNode::new(alloc, WatchEmpty))?)?;
     rules.push(Box::new(alloc, EachNode::new(alloc, WatchNames { refusals: 0 }))?)?;
-    let mut files = files_of(alloc, "é.js", b"a;;\n\n\n\n\n\n\n\n\n b")?;
-    let ran = run_over(alloc, &["é.js"], rules, &mut files, None)?;
+    let mut files = files_of(
+        alloc,
+        "{\"rules\": {\"empty\": 2, \"name\": 2}}",
+        "é.js",
+        b"a;;\n\n\n\n\n\n\n\n\n b",
+    )?;
+    let ran = run_over(alloc, &["é.js"], rules, &mut files)?;
     expect(&rt, &ran, 1, TWO_RULES, "");
-    Ok(())
-}
-
-static NO_NEWLINE: &str = "
-a.js
-  1:4  error  Newline required at end of file but not found.  eol-last
-
-✖ 1 problem (1 error, 0 warnings)
-  1 error and 0 warnings potentially fixable with the `--fix` option.
-";
-
-#[test]
-fn a_rule_of_files(rt: HostRuntime) -> Result<(), Fail> {
-    let alloc = rt.alloc();
-    let mut rules = Vec::new(alloc);
-    rules.push(EachFile::new(EolLast))?;
-    let mut files = files_of(alloc, "a.js", b"a;;")?;
-    let ran = run_over(alloc, &["a.js"], rules, &mut files, None)?;
-    expect(&rt, &ran, 1, NO_NEWLINE, "");
     Ok(())
 }
 
@@ -317,7 +166,7 @@ fn a_kit_listens_again(rt: HostRuntime) -> Result<(), Fail> {
     rules.push(Box::new(alloc, EachNode::new(alloc, WatchNames { refusals: 1 }))?)?;
     let mut kits = Vec::new(alloc);
     kits.push(Kit::new(rules))?;
-    let mut files = files_of(alloc, "a.js", b"a;\n")?;
+    let mut files = files_of(alloc, "{\"rules\": {\"name\": 2}}", "a.js", b"a;\n")?;
     let (mut out, mut err) = (SureSink::new(alloc)?, SureSink::new(alloc)?);
     let first = status_of(alloc, &["a.js"], &mut kits, &mut files, &mut out, &mut err)?;
     let second = status_of(alloc, &["a.js"], &mut kits, &mut files, &mut out, &mut err)?;
@@ -337,54 +186,16 @@ fn events_are_told_one_by_one(rt: HostRuntime) -> Result<(), Fail> {
     let mut rules = Vec::new(alloc);
     rules.push(Draws::new(alloc, &next, false, &wrong)?)?;
     rules.push(Draws::new(alloc, &next, true, &wrong)?)?;
-    let mut files = files_of(alloc, "a.js", b"a\n++b\n")?;
-    let ran = run_over(alloc, &["a.js"], rules, &mut files, None)?;
+    let mut files = files_of(
+        alloc,
+        "{\"rules\": {\"evens\": 2, \"odds\": 2}}",
+        "a.js",
+        b"a\n++b\n",
+    )?;
+    let ran = run_over(alloc, &["a.js"], rules, &mut files)?;
     expect(&rt, &ran, 0, "", "");
     assert_eq!(rt; next.load(Ordering::SeqCst), 24);
     assert_eq!(rt; wrong.load(Ordering::SeqCst), 0);
-    Ok(())
-}
-
-#[test]
-fn a_kit_without_rules_finds_nothing(rt: HostRuntime) -> Result<(), Fail> {
-    let mut files = files_of(rt.alloc(), "a.js", b"debugger;")?;
-    let rules: Vec<EachNode<NoDebugger>> = Vec::new(rt.alloc());
-    let ran = run_over(rt.alloc(), &["a.js"], rules, &mut files, None)?;
-    expect(&rt, &ran, 0, "", "");
-    assert_eq!(rt; ran.lints, 1);
-    Ok(())
-}
-
-#[test]
-fn a_failed_read_stops_a_run(rt: HostRuntime) -> Result<(), Fail> {
-    let mut files = files_of(rt.alloc(), "a.js", b"debugger;")?;
-    files.fail(rt.alloc(), false, 1, 0)?;
-    let ran = run_over(
-        rt.alloc(),
-        &["a.js"],
-        plain_rules(rt.alloc())?,
-        &mut files,
-        None,
-    )?;
-    expect(&rt, &ran, 2, "", "esl: cannot read: a.js\n");
-    assert_eq!(rt; ran.lints, 0);
-    Ok(())
-}
-
-/// The output is one write, also where it is empty.
-#[test]
-fn a_failed_print_stops_a_run(rt: HostRuntime) -> Result<(), Fail> {
-    for (text, printed) in [("debugger;", "\na."), ("a;\n", "")] {
-        let mut files = files_of(rt.alloc(), "a.js", text.as_bytes())?;
-        let ran = run_over(
-            rt.alloc(),
-            &["a.js"],
-            plain_rules(rt.alloc())?,
-            &mut files,
-            Some(3),
-        )?;
-        expect(&rt, &ran, 2, printed, "esl: cannot print\n");
-    }
     Ok(())
 }
 
@@ -404,7 +215,7 @@ impl Sink for Poor {
 
 #[test]
 fn a_run_tells_that_it_is_out_of_memory(rt: HostRuntime) -> Result<(), Fail> {
-    let mut files = files_of(rt.alloc(), "a.js", b"a;\n")?;
+    let mut files = files_of(rt.alloc(), "[]", "a.js", b"a;\n")?;
     let mut kits = Vec::new(rt.alloc());
     kits.push(Kit::new(plain_rules(rt.alloc())?))?;
     let (mut out, mut err) = (Poor, MemorySink::new(rt.alloc())?);
@@ -421,10 +232,24 @@ fn a_run_tells_that_it_is_out_of_memory(rt: HostRuntime) -> Result<(), Fail> {
     Ok(())
 }
 
-/// What the program does with a name that no file has.
+/// The names are counted as they are given.
 #[test]
-fn a_missing_file_stops_the_program(rt: HostRuntime) -> Result<(), Fail> {
-    let arguments = arguments_of(rt.alloc(), &["missing/a.js"])?;
+fn too_many_names_stop_a_run(rt: HostRuntime) -> Result<(), Fail> {
+    let alloc = rt.alloc();
+    let mut names = Vec::new(alloc);
+    names.resize(10_001, "a.js")?;
+    let mut files = files_of(alloc, "[]", "a.js", b"a;\n")?;
+    let rules = plain_rules(alloc)?;
+    let ran = run_over(alloc, names.as_slice(), rules, &mut files)?;
+    expect(&rt, &ran, 2, "", "esl: too many names\n");
+    assert_eq!(rt; ran.lints, 0);
+    Ok(())
+}
+
+/// What the program does where no file has the configuration's name.
+#[test]
+fn a_missing_configuration_stops_the_program(rt: HostRuntime) -> Result<(), Fail> {
+    let arguments = arguments_of(rt.alloc(), &["-c", "missing/a.json", "a.js"])?;
     let status = crate::lint(&rt, arguments.as_slice())?;
     assert_eq!(rt; status_code(&status), 2);
     Ok(())

@@ -1,113 +1,92 @@
-use Rattle.std.proofs.Common.{subst, Err, ◌∙◌}
-use Rattle.es_run.specs.Kits.{first_meanings, lints_of}
-use Rattle.es_run.specs.Runs.{given}
-use Rattle.es_run.specs.Stages.{Blames, Foretells, answer_of}
-use Rattle.es_run.proofs.EndsLemmas.{moved, ends_all_printed, ends_cannot_print, ends_cannot_write, ends_complete, ends_fresh, ends_half, ends_left, ends_no_failure, ends_no_memory, ends_no_more, ends_not_bad, ends_not_refused, ends_not_unread, ends_part, ends_quiet, ends_reads, ends_silent, ends_told, ends_writes, writes_part}
-use Rattle.es_run.proofs.RunsLemmas.{stopped_does, stopped_holds}
+use Rattle.es_run.specs.declared.status.StopCause.TheVariants as cause
+use Rattle.es_run.proofs.CoursesLemmas.{course, course_all_printed, course_cannot_print, course_cannot_read, course_cannot_write, course_complete, course_few_ticks, course_fresh, course_half, course_left, course_lintings, course_listens, course_most, course_no_failure, course_no_tick, course_part, course_quiet, course_reads, course_refused, course_rests, course_silent, course_some_printed, course_ticked, course_ticks, course_told, course_writes, goes_refused, goes_unplanned}
 use Rattle.es_run.proofs.runner.run.Goals as goal
 
--- ---- where it made its report
+pub returns-clause-fresh : goal.returns-clause-fresh
+returns-clause-fresh g c = course_fresh _ _ _ _ _ (course _ _ _ _ _ c.go.ensures.goes)
 
-pub returns-in-Ok-clause-fresh : goal.returns-in-Ok-clause-fresh
-returns-in-Ok-clause-fresh g c = λ settled held told.
-    let foretold = c.in-Ok.ensures.fresh held told in
-    ends_fresh _ _ _ _ _ foretold.heard foretold.fresh (moved c.in-Ok.ensures.still c.end.ensures) settled
+pub returns-clause-writes : goal.returns-clause-writes
+returns-clause-writes g c = course_writes _ _ _ _ _ (course _ _ _ _ _ c.go.ensures.goes)
 
-pub returns-in-Ok-clause-writes : goal.returns-in-Ok-clause-writes
-returns-in-Ok-clause-writes g c = λ written held told.
-    let foretold = c.in-Ok.ensures.fresh held told in
-    ends_writes _ _ _ _ _ foretold.heard foretold.fresh told (moved c.in-Ok.ensures.still c.end.ensures) written
+pub returns-clause-complete : goal.returns-clause-complete
+returns-clause-complete g c = course_complete _ _ _ _ _ (course _ _ _ _ _ c.go.ensures.goes)
 
-pub returns-in-Ok-clause-complete : goal.returns-in-Ok-clause-complete
-returns-in-Ok-clause-complete g c = ends_complete _ _ _ _ (moved c.in-Ok.ensures.still c.end.ensures)
+pub returns-clause-bad_words : goal.returns-clause-bad_words
+returns-clause-bad_words g c =
+    goes_refused _ _ _ _ _ c.go.ensures.goes cause.BadWords (λ h. absurd h) tt (λ name h. absurd (cc))
 
-pub returns-in-Ok-clause-bad_words : goal.returns-in-Ok-clause-bad_words
-returns-in-Ok-clause-bad_words g c = λ is. absurd (ends_not_bad _ _ _ _ c.end.ensures is)
+pub returns-clause-refused_words : goal.returns-clause-refused_words
+returns-clause-refused_words g c = goes_unplanned _ _ _ _ _ c.go.ensures.goes cause.BadWords
 
-pub returns-in-Ok-clause-cannot_read : goal.returns-in-Ok-clause-cannot_read
-returns-in-Ok-clause-cannot_read g c = ends_not_unread _ _ _ _ _ c.end.ensures
+pub returns-clause-too_many : goal.returns-clause-too_many
+returns-clause-too_many g c = λ names.
+    goes_refused _ _ _ _ _ c.go.ensures.goes (cause.TooMany names) (λ h. absurd h) tt (λ name h. absurd (cc))
 
-pub returns-in-Ok-clause-cannot_write : goal.returns-in-Ok-clause-cannot_write
-returns-in-Ok-clause-cannot_write g c =
-    ends_cannot_write _ _ _ _ _ c.in-Ok.ensures.asked (moved c.in-Ok.ensures.still c.end.ensures)
+pub returns-clause-refused_names : goal.returns-clause-refused_names
+returns-clause-refused_names g c = λ names. goes_unplanned _ _ _ _ _ c.go.ensures.goes (cause.TooMany names)
 
-pub returns-in-Ok-clause-cannot_print : goal.returns-in-Ok-clause-cannot_print
-returns-in-Ok-clause-cannot_print g c = ends_cannot_print _ _ _ _ c.end.ensures
+pub returns-clause-cannot_read : goal.returns-clause-cannot_read
+returns-clause-cannot_read g c = course_cannot_read _ _ _ _ _ (course _ _ _ _ _ c.go.ensures.goes)
 
-pub returns-in-Ok-clause-part : goal.returns-in-Ok-clause-part
-returns-in-Ok-clause-part g c = λ is held told.
-    let foretold = c.in-Ok.ensures.fresh held told in
-    ends_part _ _ _ _ _ foretold.heard foretold.fresh c.end.ensures is
+pub returns-clause-cannot_write : goal.returns-clause-cannot_write
+returns-clause-cannot_write g c = course_cannot_write _ _ _ _ _ (course _ _ _ _ _ c.go.ensures.goes)
 
-pub returns-in-Ok-clause-told : goal.returns-in-Ok-clause-told
-returns-in-Ok-clause-told g c = ends_told _ _ _ _ c.end.ensures
+pub returns-clause-half : goal.returns-clause-half
+returns-clause-half g c = course_half _ _ _ _ _ (course _ _ _ _ _ c.go.ensures.goes)
 
-pub returns-in-Ok-clause-quiet : goal.returns-in-Ok-clause-quiet
-returns-in-Ok-clause-quiet g c = ends_quiet _ _ _ _ c.end.ensures
+pub returns-clause-cannot_print : goal.returns-clause-cannot_print
+returns-clause-cannot_print g c = course_cannot_print _ _ _ _ _ (course _ _ _ _ _ c.go.ensures.goes)
 
-pub returns-in-Ok-clause-silent : goal.returns-in-Ok-clause-silent
-returns-in-Ok-clause-silent g c = ends_silent _ _ _ _ c.end.ensures
+pub returns-clause-part : goal.returns-clause-part
+returns-clause-part g c = course_part _ _ _ _ _ (course _ _ _ _ _ c.go.ensures.goes)
 
-pub returns-in-Ok-clause-no_failure : goal.returns-in-Ok-clause-no_failure
-returns-in-Ok-clause-no_failure g c = ends_no_failure _ _ _ _ (moved c.in-Ok.ensures.still c.end.ensures)
+pub returns-clause-told : goal.returns-clause-told
+returns-clause-told g c = course_told _ _ _ _ _ (course _ _ _ _ _ c.go.ensures.goes)
 
-pub returns-in-Ok-clause-all_printed : goal.returns-in-Ok-clause-all_printed
-returns-in-Ok-clause-all_printed g c = ends_all_printed _ _ _ _ c.end.ensures
+pub returns-clause-quiet : goal.returns-clause-quiet
+returns-clause-quiet g c = course_quiet _ _ _ _ _ (course _ _ _ _ _ c.go.ensures.goes)
 
-pub returns-in-Ok-clause-no_memory : goal.returns-in-Ok-clause-no_memory
-returns-in-Ok-clause-no_memory g c = ends_no_memory _ _ _ _ c.end.ensures
+pub returns-clause-silent : goal.returns-clause-silent
+returns-clause-silent g c = course_silent _ _ _ _ _ (course _ _ _ _ _ c.go.ensures.goes)
 
-pub returns-in-Ok-clause-no_more : goal.returns-in-Ok-clause-no_more
-returns-in-Ok-clause-no_more g c = λ is held told.
-    let foretold = c.in-Ok.ensures.fresh held told in
-    ends_no_more _ _ _ _ _ foretold.heard foretold.fresh c.end.ensures is
+pub returns-clause-no_failure : goal.returns-clause-no_failure
+returns-clause-no_failure g c = course_no_failure _ _ _ _ _ (course _ _ _ _ _ c.go.ensures.goes)
 
-pub returns-in-Ok-clause-reads : goal.returns-in-Ok-clause-reads
-returns-in-Ok-clause-reads g c =
-    ends_reads _ _ _ _ _ c.in-Ok.ensures.asked (moved c.in-Ok.ensures.still c.end.ensures)
+pub returns-clause-all_printed : goal.returns-clause-all_printed
+returns-clause-all_printed g c = course_all_printed _ _ _ _ _ (course _ _ _ _ _ c.go.ensures.goes)
 
-pub returns-in-Ok-clause-refused : goal.returns-in-Ok-clause-refused
-returns-in-Ok-clause-refused g c = λ refused. absurd (ends_not_refused _ _ _ _ c.end.ensures refused)
+pub returns-clause-some_printed : goal.returns-clause-some_printed
+returns-clause-some_printed g c = course_some_printed _ _ _ _ _ (course _ _ _ _ _ c.go.ensures.goes)
 
-pub returns-in-Ok-clause-left : goal.returns-in-Ok-clause-left
-returns-in-Ok-clause-left g c = λ is held told.
-    let foretold = c.in-Ok.ensures.fresh held told in
-    ends_left _ _ _ _ _ foretold.heard foretold.fresh told (moved c.in-Ok.ensures.still c.end.ensures) is
+pub returns-clause-reads : goal.returns-clause-reads
+returns-clause-reads g c = course_reads _ _ _ _ _ (course _ _ _ _ _ c.go.ensures.goes)
 
-pub returns-in-Ok-clause-listens : goal.returns-in-Ok-clause-listens
-returns-in-Ok-clause-listens g c = λ reported held told.
-    let foretold = c.in-Ok.ensures.fresh held told in
-    record { answer = answer_of c.in-Ok.outcome foretold.heard; fresh = foretold.fresh; listens = foretold.listens }
+pub returns-clause-refused : goal.returns-clause-refused
+returns-clause-refused g c = course_refused _ _ _ _ _ (course _ _ _ _ _ c.go.ensures.goes)
 
-pub returns-in-Ok-clause-rests : goal.returns-in-Ok-clause-rests
-returns-in-Ok-clause-rests g c = λ refused. absurd (ends_not_refused _ _ _ _ c.end.ensures refused)
+pub returns-clause-left : goal.returns-clause-left
+returns-clause-left g c = course_left _ _ _ _ _ (course _ _ _ _ _ c.go.ensures.goes)
 
-pub returns-in-Ok-clause-no_tick : goal.returns-in-Ok-clause-no_tick
-returns-in-Ok-clause-no_tick g c = λ refused. absurd (ends_not_refused _ _ _ _ c.end.ensures refused)
+pub returns-clause-listens : goal.returns-clause-listens
+returns-clause-listens g c = course_listens _ _ _ _ _ (course _ _ _ _ _ c.go.ensures.goes)
 
-pub returns-in-Ok-clause-half : goal.returns-in-Ok-clause-half
-returns-in-Ok-clause-half g c =
-    ends_half _ _ _ _ _
-    (λ write some unwritten held told.
-    let foretold = c.in-Ok.ensures.fresh held told in
-    writes_part c.in-Ok.outcome _ foretold.heard _ _ foretold.fresh write some unwritten)
-    (moved c.in-Ok.ensures.still c.end.ensures)
+pub returns-clause-rests : goal.returns-clause-rests
+returns-clause-rests g c = course_rests _ _ _ _ _ (course _ _ _ _ _ c.go.ensures.goes)
 
--- ---- where it stopped before
+pub returns-clause-lintings : goal.returns-clause-lintings
+returns-clause-lintings g c = course_lintings _ _ _ _ _ (course _ _ _ _ _ c.go.ensures.goes)
 
-pub returns-in-Err-Stop-clause-fresh : goal.returns-in-Err-Stop-clause-fresh
-returns-in-Err-Stop-clause-fresh g c = λ settled held told.
-    stopped_does _ c.refuse.result c.in-Err-Stop.cause _ _ _
-    (subst (λ fault. Foretells (given (first_meanings g.R.Rule.meaning c.args.kits.now.items) c.args.words.now held)
-    (lints_of c.args.kits.now.items) (lints_of c.lint.new.kits.items) (Err fault))
-    c.in-Err-Stop.field-0-is (c.in-Err-Stop.ensures.fresh held told))
-    c.refuse.ensures.status c.refuse.ensures.told settled
+pub returns-clause-most : goal.returns-clause-most
+returns-clause-most g c = course_most _ _ _ _ _ (course _ _ _ _ _ c.go.ensures.goes)
 
-pub returns-in-Err-Stop-clause-writes : goal.returns-in-Err-Stop-clause-writes
-returns-in-Err-Stop-clause-writes g c = λ written held told.
-    let fresh = subst (λ fault. Foretells (given (first_meanings g.R.Rule.meaning c.args.kits.now.items) c.args.words.now held)
-    (lints_of c.args.kits.now.items) (lints_of c.lint.new.kits.items) (Err fault))
-    c.in-Err-Stop.field-0-is (c.in-Err-Stop.ensures.fresh held told) in
-    stopped_holds _ c.refuse.result c.in-Err-Stop.cause _ _ _ fresh
-    (subst (Blames _ _ _) c.in-Err-Stop.field-0-is c.in-Err-Stop.ensures.blame)
-    c.refuse.ensures.status (c.lint.ensures.same ∙ told) written
+pub returns-clause-ticked : goal.returns-clause-ticked
+returns-clause-ticked g c = course_ticked _ _ _ _ _ (course _ _ _ _ _ c.go.ensures.goes)
+
+pub returns-clause-no_tick : goal.returns-clause-no_tick
+returns-clause-no_tick g c = course_no_tick _ _ _ _ _ (course _ _ _ _ _ c.go.ensures.goes)
+
+pub returns-clause-ticks : goal.returns-clause-ticks
+returns-clause-ticks g c = course_ticks _ _ _ _ _ (course _ _ _ _ _ c.go.ensures.goes)
+
+pub returns-clause-few_ticks : goal.returns-clause-few_ticks
+returns-clause-few_ticks g c = course_few_ticks _ _ _ _ _ (course _ _ _ _ _ c.go.ensures.goes)
