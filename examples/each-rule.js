@@ -1,4 +1,4 @@
-// A problem for each rule that can find one without options.
+// A problem for each rule.
 export function check(list, value) {
   debugger;
   const sparse = [list, , value];
@@ -14,4 +14,7 @@ export function check(list, value) {
   try {} finally {
     return !list in value;
   }   
+  odd: sparse = value;
+  let spare;
+  void 0;
 }

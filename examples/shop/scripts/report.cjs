@@ -1,0 +1,4 @@
+const { total } = require("../src/cart.js")
+
+if (!total) return;
+module.exports = { total };
