@@ -29,7 +29,13 @@ mod draws;
 #[cfg(test)]
 mod fix_tests;
 #[cfg(test)]
+mod project_tests;
+#[cfg(test)]
+mod run_cases;
+#[cfg(test)]
 mod tests;
+#[cfg(test)]
+mod text_cases;
 #[cfg(test)]
 mod watch;
 
