@@ -1,9 +1,10 @@
 -- What is looked up of a whole tree, and how its first error is found, as the code does it.
 use denote.Ref.{Bor}
-use Rattle.std.specs.Prelude.{◌≡◌, ℕ, ◌≤◌, Bool, ◌&&◌, nat_eq, length, List, Option, Some, None, if◌then◌else◌}
+use Rattle.std.specs.Prelude.{◌≡◌, ℕ, ◌≤◌, Bool, ◌&&◌, nat_eq, length, List, [], ◌∷◌, Option, Some, None, if◌then◌else◌}
 use Rattle.std.specs.HashMap.{HashMap, get}
 use Rattle.std.specs.Option as std
 use Rattle.es_text.specs.declared.token.SourceType.{SourceType}
+use Rattle.es_tree.specs.declared.kind.TheConstants.{ARRAY_PATTERN, ARROW_FUNCTION_EXPRESSION, ASSIGNMENT_PATTERN, CATCH_CLAUSE, CLASS_DECLARATION, FUNCTION_DECLARATION, FUNCTION_EXPRESSION, IMPORT_DEFAULT_SPECIFIER, IMPORT_NAMESPACE_SPECIFIER, IMPORT_SPECIFIER, OBJECT_PATTERN, PROPERTY, REST_ELEMENT, VARIABLE_DECLARATOR}
 use Rattle.es_tree.specs.Rows.{Row}
 use Rattle.es_tree.specs.Around.{is_some, is_text, name_of, parent}
 use Rattle.es_early.specs.declared.code.Early.{Early}
@@ -13,6 +14,11 @@ use Rattle.es_early.specs.Defaults.{is_default}
 use Rattle.es_early.specs.Errors.{IsError, is_before}
 use Rattle.es_early.specs.Notes.{HasFirsts, first_of, noted_at}
 use Rattle.es_early.specs.PrivateNames.{declares_private}
+
+-- the kinds of nodes that can declare the names that stand right in them
+abbrev pub binders : List ℕ
+binders =
+    VARIABLE_DECLARATOR ∷ PROPERTY ∷ ASSIGNMENT_PATTERN ∷ ARRAY_PATTERN ∷ OBJECT_PATTERN ∷ REST_ELEMENT ∷ FUNCTION_DECLARATION ∷ FUNCTION_EXPRESSION ∷ ARROW_FUNCTION_EXPRESSION ∷ CATCH_CLAUSE ∷ CLASS_DECLARATION ∷ IMPORT_SPECIFIER ∷ IMPORT_DEFAULT_SPECIFIER ∷ IMPORT_NAMESPACE_SPECIFIER ∷ []
 
 -- the node is a DefaultClause of this switch
 abbrev pub is_default_of : List Row → ℕ → ℕ → Bool

@@ -1,5 +1,8 @@
 //! What the names of a tree declare.
-ghost use Rattle.std.specs.Prelude.{◌≡◌};
+ghost use Rattle.std.specs.Prelude.{◌≡◌, ◌==◌};
+ghost use Rattle.std.specs.List.{list_any};
+ghost use Rattle.es_tree.specs.Around.{stands_in};
+ghost use Rattle.es_early.specs.Lookups.{binders};
 ghost use Rattle.es_early.specs.Declarations.{binding_of, is_catch_parameter, is_class_or_import};
 ghost use Rattle.es_early.specs.Declarations.{is_function_name, is_parameter, is_pattern_part};
 ghost use Rattle.es_early.specs.Declarations.{is_var, is_var_declarator, pattern_around};
@@ -12,8 +15,9 @@ use es_tree::field::{
 };
 use es_tree::kind::{
     ARRAY_PATTERN, ARROW_FUNCTION_EXPRESSION, ASSIGNMENT_PATTERN, CATCH_CLAUSE, CLASS_DECLARATION,
-    FUNCTION_DECLARATION, IDENTIFIER, IMPORT_DEFAULT_SPECIFIER, IMPORT_NAMESPACE_SPECIFIER,
-    IMPORT_SPECIFIER, OBJECT_PATTERN, PROPERTY, REST_ELEMENT, VARIABLE_DECLARATOR,
+    FUNCTION_DECLARATION, FUNCTION_EXPRESSION, IDENTIFIER, IMPORT_DEFAULT_SPECIFIER,
+    IMPORT_NAMESPACE_SPECIFIER, IMPORT_SPECIFIER, OBJECT_PATTERN, PROPERTY, REST_ELEMENT,
+    VARIABLE_DECLARATOR,
 };
 use es_tree::kinds::PLAIN_FUNCTIONS;
 use es_tree::{Ancestors, Tree, has_words, is_one_of, parent, stands_as, stands_in};
@@ -137,11 +141,43 @@ fn some_pattern_declares(tree: &Tree, pattern: Option<u32>) -> Binding
     }
 }
 
+/// Whether a node of this kind can declare the names that stand right in it.
+fn is_binder(kind: u16) -> bool
+    ensures { result ≡ list_any (λ k. k == kind) binders }
+{
+    kind == VARIABLE_DECLARATOR
+        || kind == PROPERTY
+        || kind == ASSIGNMENT_PATTERN
+        || kind == ARRAY_PATTERN
+        || kind == OBJECT_PATTERN
+        || kind == REST_ELEMENT
+        || kind == FUNCTION_DECLARATION
+        || kind == FUNCTION_EXPRESSION
+        || kind == ARROW_FUNCTION_EXPRESSION
+        || kind == CATCH_CLAUSE
+        || kind == CLASS_DECLARATION
+        || kind == IMPORT_SPECIFIER
+        || kind == IMPORT_DEFAULT_SPECIFIER
+        || kind == IMPORT_NAMESPACE_SPECIFIER
+}
+
+/// Whether the node stands right in one that can declare names.
+fn is_in_binder(tree: &Tree, node: u32) -> bool
+    ensures { result ≡ stands_in binders tree.now node }
+{
+    match parent(tree, node) {
+        Some(above) => above < tree.count() && is_binder(tree.kind(above)),
+        None => false,
+    }
+}
+
 /// What the node, if it is an Identifier, declares by its name.
 pub fn binding_of(tree: &Tree, node: u32) -> Binding
     ensures { result ≡ binding_of tree.now node }
 {
     if !is_one_of(tree, &[IDENTIFIER], node) {
+        Binding::Nothing
+    } else if !is_in_binder(tree, node) {
         Binding::Nothing
     } else if is_class_or_import(tree, node) {
         Binding::Lexical

@@ -11,7 +11,7 @@ ghost use Rattle.es_early.specs.Notes.{HasFirsts, is_noted_before, noted, noted_
 
 use crate::binding::{Binding, binding_of};
 use crate::notes::{note, was_noted, was_noted_before};
-use crate::scopes::{counts_in, declared_in, scope_around};
+use crate::scopes::{counts_in, scope_around};
 use es_text::NoMemory;
 use es_tree::field::NAME;
 use es_tree::{Tree, words};
@@ -112,7 +112,11 @@ fn note_declared<'a>(
         ≡ noted (declares_beside tree.now lexical.now scope name node) node
         (noted_at notes.old scope name)) }
 {
-    let scopes = declared_in(alloc, tree, node)?;
+    let binding = binding_of(tree, node);
+    if binding == Binding::Nothing {
+        return Ok(());
+    }
+    let scopes = counts_in(alloc, tree, node, binding)?;
     match words(tree, node, NAME) {
         Some(name) => note_in(lexical, notes, &scopes, name, node),
         None => Ok(()),
@@ -166,6 +170,9 @@ pub fn is_redeclared<'a>(
     ensures { IfOk result (λ redeclared. IsTrue redeclared ↔ IsRedeclared tree.now node) }
 {
     let binding = binding_of(tree, node);
+    if binding == Binding::Nothing {
+        return Ok(false);
+    }
     let scopes = counts_in(alloc, tree, node, binding)?;
     let Some(name) = words(tree, node, NAME) else {
         return Ok(false);

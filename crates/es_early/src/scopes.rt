@@ -1,10 +1,10 @@
 //! The scopes in which names count.
 ghost use Rattle.std.specs.Prelude.{◌≡◌, IfOk};
-ghost use Rattle.es_early.specs.Declarations.{counts_in, declared_in, is_body, is_scope};
+ghost use Rattle.es_early.specs.Declarations.{counts_in, is_body, is_scope};
 ghost use Rattle.es_early.specs.Declarations.{is_var_scope, listed, scope_around};
 ghost use Rattle.es_early.specs.Declarations.{scope_around_some, scopes_in_function};
 
-use crate::binding::{Binding, binding_of};
+use crate::binding::Binding;
 use es_text::NoMemory;
 use es_tree::kind::{
     ARROW_FUNCTION_EXPRESSION, BLOCK_STATEMENT, CATCH_CLAUSE, FOR_IN_STATEMENT, FOR_OF_STATEMENT,
@@ -132,11 +132,4 @@ pub fn counts_in(
         Binding::Function => listed(alloc, scope_around_some(tree, parent(tree, node))),
         Binding::Nothing => Ok(Vec::new(alloc)),
     }
-}
-
-/// The scopes in which the node declares its name.
-pub fn declared_in(alloc: Global, tree: &Tree, node: u32) -> Result<Vec<u32>, NoMemory>
-    ensures { IfOk result (λ scopes. scopes.items ≡ declared_in tree.now node) }
-{
-    counts_in(alloc, tree, node, binding_of(tree, node))
 }
