@@ -40,6 +40,9 @@ pub enum Binding {
 fn is_pattern_part(tree: &Tree, node: u32) -> bool
     ensures { result ≡ is_pattern_part tree.now node }
 {
+    if !is_in_binder(tree, node) {
+        return false;
+    }
     stands_in(tree, &[ARRAY_PATTERN, OBJECT_PATTERN, REST_ELEMENT], node)
         || stands_as(tree, &[PROPERTY], VALUE, node)
         || stands_as(tree, &[ASSIGNMENT_PATTERN], LEFT, node)
@@ -118,6 +121,9 @@ fn is_function_name(tree: &Tree, node: u32) -> bool
 fn pattern_declares(tree: &Tree, pattern: u32) -> Binding
     ensures { result ≡ pattern_declares tree.now pattern }
 {
+    if !is_in_binder(tree, pattern) {
+        return Binding::Nothing;
+    }
     if stands_as(tree, &[VARIABLE_DECLARATOR], ID, pattern) {
         if is_var_declarator(tree, parent(tree, pattern)) {
             Binding::Var
@@ -179,6 +185,10 @@ pub fn binding_of(tree: &Tree, node: u32) -> Binding
         Binding::Nothing
     } else if !is_in_binder(tree, node) {
         Binding::Nothing
+    } else if stands_in(tree, &[VARIABLE_DECLARATOR], node) {
+        pattern_declares(tree, node)
+    } else if stands_in(tree, &[PROPERTY], node) {
+        some_pattern_declares(tree, pattern_around(tree, node))
     } else if is_class_or_import(tree, node) {
         Binding::Lexical
     } else if is_function_name(tree, node) {
