@@ -1,6 +1,7 @@
 pub mod Analysis
 pub mod Bindings
 pub mod Chains
+pub mod Deciding
 pub mod Declarations
 pub mod Filled
 pub mod Gathering

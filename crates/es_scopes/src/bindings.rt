@@ -6,6 +6,7 @@ ghost use Rattle.es_scopes.specs.Bindings.{kind_declared, pattern_around, patter
 ghost use Rattle.es_scopes.specs.Bindings.{some_pattern_kind};
 
 use crate::binding::DeclarationKind;
+use crate::deciding::is_in_binder;
 use es_tree::field::{
     ARROW_BODY, CATCH_PARAMETER, DECLARATION_KIND, FUNCTION_BODY, ID, IMPORTED_LOCAL, LEFT, LOCAL,
     VALUE,
@@ -125,7 +126,9 @@ fn is_imported(tree: &Tree, node: u32) -> bool
 pub fn kind_declared(tree: &Tree, node: u32) -> Option<DeclarationKind>
     ensures { result ≡ kind_declared tree.now node }
 {
-    if stands_as(tree, &[CLASS_DECLARATION], ID, node) {
+    if !is_in_binder(tree, node) {
+        None
+    } else if stands_as(tree, &[CLASS_DECLARATION], ID, node) {
         Some(DeclarationKind::Class)
     } else if stands_as(tree, &[FUNCTION_DECLARATION], ID, node) {
         Some(DeclarationKind::Function)

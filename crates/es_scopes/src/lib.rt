@@ -4,6 +4,7 @@
 mod binding;
 mod bindings;
 mod chain;
+mod deciding;
 mod declarations;
 mod field;
 mod number;

@@ -3,6 +3,7 @@ ghost use Rattle.std.specs.Prelude.{◌≡◌};
 ghost use Rattle.es_scopes.specs.Opened.{holds_vars, is_block, is_field_value, kind_scope};
 ghost use Rattle.es_scopes.specs.Opened.{knows_its_name};
 
+use crate::deciding::is_opener;
 use crate::scope::ScopeKind;
 use es_tree::field::{ID, VALUE};
 use es_tree::kind::{
@@ -41,7 +42,9 @@ fn is_block(tree: &Tree, node: u32) -> bool
 pub fn kind_scope(tree: &Tree, node: u32) -> Option<ScopeKind>
     ensures { result ≡ kind_scope tree.now node }
 {
-    if is_one_of(tree, &[PROGRAM], node) {
+    if !is_opener(tree, node) {
+        None
+    } else if is_one_of(tree, &[PROGRAM], node) {
         Some(ScopeKind::Program)
     } else if is_one_of(tree, &FUNCTIONS, node) {
         Some(ScopeKind::Function)

@@ -5,6 +5,7 @@ ghost use Rattle.es_scopes.specs.Places.{around, innermost, inside, is_left_out,
 ghost use Rattle.es_scopes.specs.Places.{own_scope, stands};
 ghost use Rattle.es_scopes.specs.Filled.{AreAllPlaces, ArePlaces};
 
+use crate::deciding::is_in_leaver;
 use crate::field::DISCRIMINANT;
 use crate::number::number;
 use crate::opened::{CLASSES, is_field_value, kind_scope, knows_its_name};
@@ -34,6 +35,9 @@ pub struct Places {
 fn is_left_out(tree: &Tree, node: u32) -> bool
     ensures { result ≡ is_left_out tree.now node }
 {
+    if !is_in_leaver(tree, node) {
+        return false;
+    }
     stands_as(tree, &[SWITCH_STATEMENT], DISCRIMINANT, node)
         || stands_as(tree, &PLAIN_FUNCTIONS, ID, node)
         || stands_as(tree, &CLASSES, ID, node)

@@ -7,6 +7,7 @@ ghost use Rattle.es_scopes.specs.Uses.{is_label, is_name, is_plain, is_specified
 ghost use Rattle.es_scopes.specs.Uses.{is_valued, pattern_use, some_use, use_of};
 
 use crate::bindings::{pattern_around, pattern_kind};
+use crate::deciding::{is_in_namer, is_in_user};
 use crate::field::{
     ARGUMENT, FIELD_COMPUTED, INIT, MEMBER_COMPUTED, MEMBER_PROPERTY, METHOD_COMPUTED, OPERATOR,
     PROPERTY_COMPUTED,
@@ -116,6 +117,9 @@ fn is_specified(tree: &Tree, node: u32) -> bool
 fn is_bare(tree: &Tree, node: u32) -> bool
     ensures { result ≡ is_bare tree.now node }
 {
+    if !is_in_namer(tree, node) {
+        return false;
+    }
     is_key(tree, node) || is_name(tree, node) || is_label(tree, node) || is_specified(tree, node)
 }
 
@@ -187,6 +191,12 @@ fn is_given(tree: &Tree, pattern: u32) -> bool
 fn pattern_use(tree: &Tree, pattern: u32) -> Use
     ensures { result ≡ pattern_use tree.now pattern }
 {
+    if !is_in_user(tree, pattern) {
+        return Use {
+            read: true,
+            write: false,
+        };
+    }
     let assigned = is_assigned(tree, pattern);
     Use {
         read: pattern_kind(tree, pattern).is_none() && (!assigned || is_updated(tree, pattern)),
