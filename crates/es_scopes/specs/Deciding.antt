@@ -26,3 +26,8 @@ users =
 abbrev pub openers : List ℕ
 openers =
     PROGRAM ∷ FUNCTION_DECLARATION ∷ FUNCTION_EXPRESSION ∷ ARROW_FUNCTION_EXPRESSION ∷ BLOCK_STATEMENT ∷ SWITCH_STATEMENT ∷ FOR_STATEMENT ∷ FOR_IN_STATEMENT ∷ FOR_OF_STATEMENT ∷ CATCH_CLAUSE ∷ CLASS_DECLARATION ∷ CLASS_EXPRESSION ∷ STATIC_BLOCK ∷ []
+
+-- nodes of these kinds can be a pattern around what stands right in them
+abbrev pub wholes : List ℕ
+wholes =
+    PROPERTY ∷ ASSIGNMENT_PATTERN ∷ ARRAY_PATTERN ∷ OBJECT_PATTERN ∷ REST_ELEMENT ∷ []

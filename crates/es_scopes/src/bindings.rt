@@ -6,7 +6,7 @@ ghost use Rattle.es_scopes.specs.Bindings.{kind_declared, pattern_around, patter
 ghost use Rattle.es_scopes.specs.Bindings.{some_pattern_kind};
 
 use crate::binding::DeclarationKind;
-use crate::deciding::is_in_binder;
+use crate::deciding::{is_in_binder, is_in_whole};
 use es_tree::field::{
     ARROW_BODY, CATCH_PARAMETER, DECLARATION_KIND, FUNCTION_BODY, ID, IMPORTED_LOCAL, LEFT, LOCAL,
     VALUE,
@@ -23,6 +23,9 @@ use es_tree::{Ancestors, Tree, has_words, parent, stands_as, stands_in};
 fn is_pattern_part(tree: &Tree, node: u32) -> bool
     ensures { result ≡ is_pattern_part tree.now node }
 {
+    if !is_in_whole(tree, node) {
+        return false;
+    }
     stands_in(tree, &[ARRAY_PATTERN, OBJECT_PATTERN, REST_ELEMENT], node)
         || stands_as(tree, &[PROPERTY], VALUE, node)
         || stands_as(tree, &[ASSIGNMENT_PATTERN], LEFT, node)

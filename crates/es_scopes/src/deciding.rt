@@ -2,7 +2,7 @@
 ghost use Rattle.std.specs.Prelude.{◌≡◌, ◌==◌};
 ghost use Rattle.std.specs.List.{list_any};
 ghost use Rattle.es_tree.specs.Around.{is_one_of, stands_in};
-ghost use Rattle.es_scopes.specs.Deciding.{binders, leavers, namers, openers, users};
+ghost use Rattle.es_scopes.specs.Deciding.{binders, leavers, namers, openers, users, wholes};
 
 use es_tree::kind::{
     ARRAY_PATTERN, ARROW_FUNCTION_EXPRESSION, ASSIGNMENT_EXPRESSION, ASSIGNMENT_PATTERN,
@@ -149,4 +149,25 @@ pub fn is_opener(tree: &Tree, node: u32) -> bool
     ensures { result ≡ is_one_of openers tree.now node }
 {
     node < tree.count() && is_opener_kind(tree.kind(node))
+}
+
+/// Whether a node of this kind can be a pattern around what stands right in it.
+fn is_whole(kind: u16) -> bool
+    ensures { result ≡ list_any (λ k. k == kind) wholes }
+{
+    kind == PROPERTY
+        || kind == ASSIGNMENT_PATTERN
+        || kind == ARRAY_PATTERN
+        || kind == OBJECT_PATTERN
+        || kind == REST_ELEMENT
+}
+
+/// Whether the node's parent can be a pattern around it.
+pub fn is_in_whole(tree: &Tree, node: u32) -> bool
+    ensures { result ≡ stands_in wholes tree.now node }
+{
+    match parent(tree, node) {
+        Some(above) => above < tree.count() && is_whole(tree.kind(above)),
+        None => false,
+    }
 }

@@ -12,6 +12,7 @@ ghost use Rattle.es_scopes.specs.Gathering.{put_all};
 use crate::binding::DeclarationKind;
 use crate::bindings::kind_declared;
 use crate::chain::home;
+use crate::deciding::is_in_leaver;
 use crate::opened::CLASSES;
 use crate::places::{Places, inside, own_scope, stands};
 use crate::scope::Scope;
@@ -81,6 +82,9 @@ fn declared_outside(tree: &Tree, places: &Places, node: u32) -> Option<Declarati
 fn names_inside(tree: &Tree, node: u32) -> bool
     ensures { result ≡ names_inside tree.now node }
 {
+    if !is_in_leaver(tree, node) {
+        return false;
+    }
     stands_as(tree, &CLASSES, ID, node) || stands_as(tree, &[FUNCTION_EXPRESSION], ID, node)
 }
 

@@ -1,6 +1,8 @@
 //! Which Identifiers are references, and whether they read and write.
 ghost use Rattle.std.specs.Prelude.{◌≡◌};
 ghost use Rattle.es_tree.specs.Around.{is_set};
+ghost use Rattle.es_tree.specs.declared.kind.TheConstants.{MEMBER_EXPRESSION};
+ghost use Rattle.es_scopes.specs.declared.field.TheConstants.{MEMBER_COMPUTED, MEMBER_PROPERTY};
 ghost use Rattle.es_scopes.specs.Bindings.{if_some};
 ghost use Rattle.es_scopes.specs.Uses.{is_assigned, is_bare, is_fixed, is_given, is_head, is_key};
 ghost use Rattle.es_scopes.specs.Uses.{is_label, is_name, is_plain, is_specified, is_updated};
@@ -60,18 +62,26 @@ fn is_fixed(tree: &Tree, kind: u16, field: u16, computed: u16, node: u32) -> boo
     stands_as(tree, &[kind], field, node) && !is_some_set(tree, parent(tree, node), computed)
 }
 
+/// Whether the node is the name of a property behind a dot.
+fn is_member_name(tree: &Tree, node: u32) -> bool
+    ensures { result
+        ≡ is_fixed MEMBER_EXPRESSION MEMBER_PROPERTY MEMBER_COMPUTED tree.now node }
+{
+    is_fixed(
+        tree,
+        MEMBER_EXPRESSION,
+        MEMBER_PROPERTY,
+        MEMBER_COMPUTED,
+        node,
+    )
+}
+
 /// Whether the node is a key or the name of a property.
 fn is_key(tree: &Tree, node: u32) -> bool
     ensures { result ≡ is_key tree.now node }
 {
     is_fixed(tree, PROPERTY, KEY, PROPERTY_COMPUTED, node)
-        || is_fixed(
-            tree,
-            MEMBER_EXPRESSION,
-            MEMBER_PROPERTY,
-            MEMBER_COMPUTED,
-            node,
-        )
+        || is_member_name(tree, node)
         || is_fixed(tree, METHOD_DEFINITION, KEY, METHOD_COMPUTED, node)
         || is_fixed(tree, PROPERTY_DEFINITION, KEY, FIELD_COMPUTED, node)
 }
@@ -119,6 +129,9 @@ fn is_bare(tree: &Tree, node: u32) -> bool
 {
     if !is_in_namer(tree, node) {
         return false;
+    }
+    if stands_in(tree, &[MEMBER_EXPRESSION], node) {
+        return is_member_name(tree, node);
     }
     is_key(tree, node) || is_name(tree, node) || is_label(tree, node) || is_specified(tree, node)
 }
