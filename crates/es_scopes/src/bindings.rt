@@ -6,7 +6,7 @@ ghost use Rattle.es_scopes.specs.Bindings.{kind_declared, pattern_around, patter
 ghost use Rattle.es_scopes.specs.Bindings.{some_pattern_kind};
 
 use crate::binding::DeclarationKind;
-use crate::deciding::{is_in_binder, is_in_whole};
+use crate::deciding::{is_in_binder, is_in_user, is_in_whole};
 use es_tree::field::{
     ARROW_BODY, CATCH_PARAMETER, DECLARATION_KIND, FUNCTION_BODY, ID, IMPORTED_LOCAL, LEFT, LOCAL,
     VALUE,
@@ -91,7 +91,9 @@ fn declarator_kind(tree: &Tree, declarator: Option<u32>) -> DeclarationKind
 pub fn pattern_kind(tree: &Tree, pattern: u32) -> Option<DeclarationKind>
     ensures { result ≡ pattern_kind tree.now pattern }
 {
-    if stands_as(tree, &[VARIABLE_DECLARATOR], ID, pattern) {
+    if !is_in_user(tree, pattern) {
+        None
+    } else if stands_as(tree, &[VARIABLE_DECLARATOR], ID, pattern) {
         Some(declarator_kind(tree, parent(tree, pattern)))
     } else if is_parameter(tree, pattern) {
         Some(DeclarationKind::Param)
@@ -131,6 +133,8 @@ pub fn kind_declared(tree: &Tree, node: u32) -> Option<DeclarationKind>
 {
     if !is_in_binder(tree, node) {
         None
+    } else if is_in_whole(tree, node) {
+        some_pattern_kind(tree, pattern_around(tree, node))
     } else if stands_as(tree, &[CLASS_DECLARATION], ID, node) {
         Some(DeclarationKind::Class)
     } else if stands_as(tree, &[FUNCTION_DECLARATION], ID, node) {

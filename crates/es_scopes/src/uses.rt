@@ -133,6 +133,12 @@ fn is_bare(tree: &Tree, node: u32) -> bool
     if stands_in(tree, &[MEMBER_EXPRESSION], node) {
         return is_member_name(tree, node);
     }
+    if stands_in(tree, &PLAIN_FUNCTIONS, node) {
+        return stands_as(tree, &PLAIN_FUNCTIONS, ID, node);
+    }
+    if stands_in(tree, &[PROPERTY], node) {
+        return is_fixed(tree, PROPERTY, KEY, PROPERTY_COMPUTED, node);
+    }
     is_key(tree, node) || is_name(tree, node) || is_label(tree, node) || is_specified(tree, node)
 }
 
