@@ -1,9 +1,9 @@
 -- The tables of variables by their names.
 use Rattle.std.proofs.Common.{◌≡◌, ◌∙◌, ℕ, zero, suc, ◌+◌, ◌≤◌, List, [], ◌∷◌, ◌++◌, length, Bool, true, false, Option, Some, None, Result, Ok, Err, refl, ap, sym, subst, inl, inr, arith, eq-eqb}
-use Rattle.std.specs.Prelude.{◌==◌, ◌&&◌, cond, filter, not, if◌then◌else◌, slice_get, OnOk, String}
-use Rattle.std.specs.HashMap.{HashMap, get_by_text}
+use Rattle.std.specs.Prelude.{◌==◌, ◌&&◌, cond, filter, not, if◌then◌else◌, slice_get, OnOk, String, string_bytes}
+use Rattle.std.specs.HashMap.{HashMap, get_by_text, hash_map_len}
 use Rattle.std.specs.List.{list_all}
-use Rattle.std.specs.Map.{update}
+use Rattle.std.specs.Map.{lookup, update}
 use Rattle.std.specs.Option.{option_and_then}
 use Rattle.std.specs.Str.{bytes_eq}
 use Rattle.std.proofs.lemmas.Bool.{cases_eq, ne_eqb}
@@ -107,3 +107,11 @@ tables-more scope vs ws tables table are long fresh is = record {
         ∙ sym (found-more (is_of s name) vs ws (fresh-none s name ws (fresh s (λ same. other (sym same)))))
   ];
 }
+
+no_entry : {K X : Type 0} (test : K → Bool) (entries : List (K × X)) → length entries ≡ 0 → lookup test entries ≡ None
+no_entry test [] none = refl
+no_entry test (e ∷ es) none = cc
+
+-- a table without entries has no variable at a name
+pub empty_finds : {Z S : Type 0} (table : HashMap (String Z) ℕ S) (name : List ℕ) → hash_map_len table ≡ 0 → get_by_text table name ≡ None
+empty_finds table name none = no_entry (λ k. bytes_eq name (string_bytes k)) table.entries none

@@ -1,5 +1,6 @@
 //! What names and Identifiers refer to.
 ghost use Rattle.std.specs.Prelude.{◌≡◌, ◌<◌, ◌++◌, length, IfOk, OnOk};
+ghost use Rattle.std.specs.HashMap.{get_by_text};
 ghost use Rattle.es_tree.specs.Around.{name_of};
 ghost use Rattle.es_scopes.specs.Chains.{AreNested, outward};
 ghost use Rattle.es_scopes.specs.Declarations.{some_list};
@@ -20,11 +21,22 @@ use es_tree::{Tree, words};
 use std::alloc::Global;
 use std::collections::HashMap;
 
+/// The variable that a table has at this name, which isn't hashed where the table has none.
+#[tactic(auto, using(crate::proofs::TableLemmas::empty_finds))]
+fn find(table: &HashMap<String, u32>, name: &str) -> Option<u32>
+    ensures { result ≡ get_by_text table.now name.now }
+{
+    if table.is_empty() {
+        return None;
+    }
+    table.get(name).copied()
+}
+
 /// The variable of this name in one scope.
 fn find_in(tables: &[HashMap<String, u32>], name: &str, scope: u32) -> Option<u32>
     ensures { result ≡ finds tables.now name.now scope }
 {
-    tables.get(scope as usize)?.get(name).copied()
+    find(tables.get(scope as usize)?, name)
 }
 
 /// The variable of this name of the innermost scope, from this one outwards, that has it.
