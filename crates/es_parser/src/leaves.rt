@@ -1,14 +1,15 @@
 //! The nodes that are one token.
-ghost use Rattle.std.specs.Prelude.{◌≡◌, ◌==◌, ◌-◌, ◌++◌, ◌∷◌, [], drop, take, length, IfOk, IfSome, IfNone, OnOk, Some};
+ghost use Rattle.std.specs.Prelude.{◌≡◌, ◌==◌, ◌-◌, ◌++◌, ◌∷◌, [], drop, if◌then◌else◌, take, length, IfOk, IfSome, IfNone, OnOk, Some};
 ghost use Rattle.std.specs.List.{list_any};
 ghost use Rattle.std.specs.Str.{chars};
 ghost use Rattle.es_text.specs.Characters.{backslash};
-ghost use Rattle.es_grammar.specs.Drafts.{between, ends_with_n, leaf_of, leaf_settings, literal_settings, number_value, template_settings, text_value, word_value};
+ghost use Rattle.es_grammar.specs.Drafts.{between, ends_with_n, leaf_of, literal_settings, number_value, template_settings, text_value, word_value};
 ghost use Rattle.es_grammar.specs.Drafts as drafts;
+ghost use Rattle.es_grammar.specs.Forms.{kind_called};
 ghost use Rattle.es_grammar.specs.Parts.{leaf_child};
 ghost use Rattle.es_parser.specs.Kept.{IsWithin};
 
-use crate::nodes::with_settings;
+use crate::nodes::{with_settings, with_words};
 use crate::reader::Reader;
 use es_grammar::{Child, Field, Setting};
 use es_text::{Items, NoMemory, Token, TokenKind, Txt};
@@ -168,40 +169,34 @@ fn template_settings(alloc: Global, kind: TokenKind, text: &str) -> Result<Items
     Ok(settings)
 }
 
-/// The attributes of a node of this kind that is a token of this kind and text.
-#[tactic(auto, unfolding(es_grammar::specs::Drafts::leaf_settings))]
-fn leaf_settings(
-    alloc: Global,
-    node_kind: u16,
-    token_kind: TokenKind,
-    text: &str,
-) -> Result<Items<Setting>, NoMemory>
-    ensures { IfOk result (λ settings. settings ≡ leaf_settings node_kind token_kind (chars text.now)) }
+/// The name that the text of a node of this kind says.
+fn name_in(node_kind: u16, text: &str) -> &str
+    ensures { chars result.now ≡ if node_kind == kind_called "PrivateIdentifier" then drop 1 (chars text.now) else chars text.now }
 {
-    if node_kind == kind::LITERAL {
-        return literal_settings(alloc, token_kind, text);
-    }
-    if node_kind == kind::TEMPLATE_ELEMENT {
-        return template_settings(alloc, token_kind, text);
-    }
-    let name = if node_kind == kind::PRIVATE_IDENTIFIER {
+    if node_kind == kind::PRIVATE_IDENTIFIER {
         without_first(text)
     } else {
         text
-    };
-    let mut settings = Items::new(alloc);
-    settings.push(words(alloc, Field::Name, name)?)?;
-    Ok(settings)
+    }
 }
 
 /// The node of this kind that the token is.
-#[tactic(auto, unfolding(es_grammar::specs::Drafts::shape_of))]
-fn leaf_of(alloc: Global, reader: &Reader, kind: u16, found: Token) -> Result<Node, NoMemory>
+#[tactic(auto, unfolding(es_grammar::specs::Drafts::shape_of, es_grammar::specs::Drafts::leaf_settings))]
+fn leaf_of(alloc: Global, reader: &Reader, node_kind: u16, found: Token) -> Result<Node, NoMemory>
     requires { IsWithin reader.now found.span.start found }
-    ensures { IfOk result (λ node. node ≡ leaf_of reader.now kind found) }
+    ensures { IfOk result (λ node. node ≡ leaf_of reader.now node_kind found) }
 {
-    let settings = leaf_settings(alloc, kind, found.kind, reader.text_of(found))?;
-    with_settings(alloc, kind, found.span, settings)
+    let text = reader.text_of(found);
+    if node_kind == kind::LITERAL {
+        let settings = literal_settings(alloc, found.kind, text)?;
+        return with_settings(alloc, node_kind, found.span, settings);
+    }
+    if node_kind == kind::TEMPLATE_ELEMENT {
+        let settings = template_settings(alloc, found.kind, text)?;
+        return with_settings(alloc, node_kind, found.span, settings);
+    }
+    let name = name_in(node_kind, text);
+    with_words(alloc, node_kind, found.span, Field::Name, name)
 }
 
 /// The same as a child of the node around.

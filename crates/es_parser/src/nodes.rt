@@ -1,18 +1,21 @@
 //! The nodes that are made of what was read.
 ghost use Rattle.std.specs.Prelude.{◌≡◌, ◌≤◌, ◌<◌, nat_lt, ◌∷◌, [], map, Some, None, IfOk, IfSome, IfNone, ℕ};
 ghost use Rattle.std.specs.Option.{unwrap_or};
+ghost use Rattle.std.specs.Str.{chars};
 ghost use Rattle.es_tables.specs.Nodes.{field_index, node_rows};
 ghost use Rattle.es_tree.specs.Shapes.{bare, height, height_of};
 ghost use Rattle.es_text.specs.declared.span.Span.{Span};
-ghost use Rattle.es_grammar.specs.Drafts.{first_start, flags_of, joined, last_end, name_of, index_in, shape_of, span_of, with_children, with_flags, with_settings};
+ghost use Rattle.es_grammar.specs.Drafts.{first_start, flags_of, joined, last_end, name_of, index_in, shape_of, span_of, with_children, with_flags, with_settings, words};
+ghost use Rattle.es_grammar.specs.declared.draft.Draft.{Draft as DraftOf};
+ghost use Rattle.es_grammar.specs.declared.draft.Outcome.TheVariants.{Read};
 ghost use Rattle.es_grammar.specs.Parts.{finish, made};
 ghost use Rattle.es_parser.specs.Flags.{flags_in};
 
 use crate::drafts::{join, nothing};
 use es_grammar::{Child, Draft, Field, GREATEST_HEIGHT, Outcome, Product, Setting};
 use es_tables::field_of;
-use es_text::{Items, NoMemory, Span, Token};
-use es_tree::{AttributeValue, Node, heights};
+use es_text::{Items, NoMemory, Span, Token, Txt};
+use es_tree::{AttributeValue, Node, heights, kind};
 use std::alloc::Global;
 
 /// The name that stands behind the field among these.
@@ -47,13 +50,39 @@ pub fn name_of(field: Field) -> &'static str
     ]
 }
 
+/// The position of the field among those of the kind, where it is one of those that come most.
+#[tactic(auto, unfolding(es_grammar::specs::Drafts::name_of))]
+fn usual_place(node_kind: u16, field: Field) -> Option<u16>
+    ensures { IfSome result (λ place. field_index node_kind (name_of field) ≡ Some place) }
+{
+    match field {
+        Field::Name if node_kind == kind::IDENTIFIER => Some(0),
+        Field::Object if node_kind == kind::MEMBER_EXPRESSION => Some(0),
+        Field::Property if node_kind == kind::MEMBER_EXPRESSION => Some(1),
+        Field::Callee if node_kind == kind::CALL_EXPRESSION => Some(0),
+        Field::Arguments if node_kind == kind::CALL_EXPRESSION => Some(1),
+        Field::Raw if node_kind == kind::LITERAL => Some(0),
+        Field::Value if node_kind == kind::LITERAL => Some(1),
+        Field::Expression if node_kind == kind::EXPRESSION_STATEMENT => Some(0),
+        Field::Left if node_kind == kind::BINARY_EXPRESSION => Some(0),
+        Field::Right if node_kind == kind::BINARY_EXPRESSION => Some(1),
+        Field::Operator if node_kind == kind::BINARY_EXPRESSION => Some(2),
+        Field::Id if node_kind == kind::VARIABLE_DECLARATOR => Some(0),
+        Field::Init if node_kind == kind::VARIABLE_DECLARATOR => Some(1),
+        _ => None,
+    }
+}
+
 /// The position of the field among those of the kind; children without a field stand in the first.
 pub fn index_in(kind: u16, field: Option<Field>) -> u16
     ensures { result ≡ index_in kind field }
 {
-    match field {
-        None => 0,
-        Some(field) => field_of(kind, name_of(field)).unwrap_or(0),
+    let Some(field) = field else {
+        return 0;
+    };
+    match usual_place(kind, field) {
+        Some(place) => place,
+        None => field_of(kind, name_of(field)).unwrap_or(0),
     }
 }
 
@@ -176,6 +205,23 @@ pub fn with_settings(
     Ok(node)
 }
 
+/// The same with one attribute, which is a text.
+pub fn with_words(
+    alloc: Global,
+    kind: u16,
+    span: Span,
+    field: Field,
+    text: &str,
+) -> Result<Node, NoMemory>
+    ensures { IfOk result (λ node. node ≡ with_settings kind (words field (chars text.now) ∷ [])
+        (with_flags kind (flags_of kind) (bare kind span))) }
+{
+    let mut node = with_flags(alloc, kind, span)?;
+    let value = AttributeValue::Words(Txt::new(alloc, text)?);
+    node.give(alloc, index_in(kind, Some(field)), value)?;
+    Ok(node)
+}
+
 fn is_too_high(child: &Option<Node>) -> bool
     ensures { result ≡ nat_lt GREATEST_HEIGHT (height_of child.now) }
 {
@@ -280,6 +326,23 @@ fn made(
     }
 }
 
+/// What a row makes of all that was read.
+#[tactic(auto, unfolding(es_grammar::specs::Parts::finish))]
+pub fn made_of(alloc: Global, makes: Product, draft: Draft, end: u32) -> Result<Outcome, NoMemory>
+    ensures { IfOk result (λ all. (seed : DraftOf) (parts : DraftOf) → joined seed parts ≡ draft →
+        all ≡ finish makes seed (Read parts end)) }
+{
+    let becomes = draft.becomes;
+    match makes {
+        Product::Parts => Ok(Outcome::Read(draft, end)),
+        Product::Node(kind) => made(alloc, kind, draft, becomes, end),
+        Product::Becoming => match becomes {
+            None => Ok(Outcome::Read(draft, end)),
+            Some(kind) => made(alloc, kind, draft, None, end),
+        },
+    }
+}
+
 /// What a row makes of what its parts gave, behind what was read before.
 #[tactic(auto, unfolding(es_grammar::specs::Parts::finish))]
 pub fn finish(
@@ -293,14 +356,5 @@ pub fn finish(
     let Outcome::Read(draft, end) = outcome else {
         return Ok(outcome);
     };
-    let draft = join(seed, draft)?;
-    let becomes = draft.becomes;
-    match makes {
-        Product::Parts => Ok(Outcome::Read(draft, end)),
-        Product::Node(kind) => made(alloc, kind, draft, becomes, end),
-        Product::Becoming => match becomes {
-            None => Ok(Outcome::Read(draft, end)),
-            Some(kind) => made(alloc, kind, draft, None, end),
-        },
-    }
+    made_of(alloc, makes, join(seed, draft)?, end)
 }
