@@ -547,7 +547,7 @@ or_none : {A : Type 0} (x : Option A) → option_or x None ≡ x
 or_none None = refl
 or_none (Some kind) = refl
 
-joined_empty : (draft : Draft) → joined empty draft ≡ draft
+pub joined_empty : (draft : Draft) → joined empty draft ≡ draft
 joined_empty draft = ap (λ kind. record draft { becomes = kind }) (or_none draft.becomes)
 
 parts_only : (q : Reached) (draft : Draft) → outcome_of q draft ≡ finish product.Parts empty (outcome_of q draft)

@@ -20,15 +20,21 @@ pub fn nothing(alloc: Global) -> Draft
     }
 }
 
+/// Whether nothing was read.
+pub fn is_empty(draft: &Draft) -> bool
+    ensures { OnTrue result (draft.now ≡ empty) }
+{
+    draft.tokens.len() == 0
+        && draft.children.len() == 0
+        && draft.settings.len() == 0
+        && draft.becomes.is_none()
+}
+
 /// Whether nothing was read, and no field is given: then what a symbol reads is what it gives.
 pub fn is_bare(field: Option<Field>, draft: &Draft) -> bool
     ensures { OnTrue result ((field ≡ None) × (draft.now ≡ empty)) }
 {
-    field.is_none()
-        && draft.children.len() == 0
-        && draft.settings.len() == 0
-        && draft.tokens.len() == 0
-        && draft.becomes.is_none()
+    field.is_none() && is_empty(draft)
 }
 
 /// The items of the second list behind those of the first. Takes time in the length of the second, or

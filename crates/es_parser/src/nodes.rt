@@ -5,7 +5,7 @@ ghost use Rattle.std.specs.Str.{chars};
 ghost use Rattle.es_tables.specs.Nodes.{field_index, node_rows};
 ghost use Rattle.es_tree.specs.Shapes.{bare, height, height_of};
 ghost use Rattle.es_text.specs.declared.span.Span.{Span};
-ghost use Rattle.es_grammar.specs.Drafts.{first_start, flags_of, joined, last_end, name_of, index_in, shape_of, span_of, with_children, with_flags, with_settings, words};
+ghost use Rattle.es_grammar.specs.Drafts.{empty, first_start, flags_of, joined, last_end, name_of, index_in, shape_of, span_of, with_children, with_flags, with_settings, words};
 ghost use Rattle.es_grammar.specs.declared.draft.Draft.{Draft as DraftOf};
 ghost use Rattle.es_grammar.specs.declared.draft.Outcome.TheVariants.{Read};
 ghost use Rattle.es_grammar.specs.Parts.{finish, made};
@@ -328,7 +328,7 @@ fn made(
 
 /// What a row makes of all that was read.
 #[tactic(auto, unfolding(es_grammar::specs::Parts::finish))]
-pub fn made_of(alloc: Global, makes: Product, draft: Draft, end: u32) -> Result<Outcome, NoMemory>
+fn made_of(alloc: Global, makes: Product, draft: Draft, end: u32) -> Result<Outcome, NoMemory>
     ensures { IfOk result (λ all. (seed : DraftOf) (parts : DraftOf) → joined seed parts ≡ draft →
         all ≡ finish makes seed (Read parts end)) }
 {
@@ -341,6 +341,24 @@ pub fn made_of(alloc: Global, makes: Product, draft: Draft, end: u32) -> Result<
             Some(kind) => made(alloc, kind, draft, None, end),
         },
     }
+}
+
+/// The same where nothing was read before.
+fn made_alone(alloc: Global, makes: Product, draft: Draft, end: u32) -> Result<Outcome, NoMemory>
+    ensures { IfOk result (λ all. all ≡ finish makes empty (Read draft end)) }
+{
+    made_of(alloc, makes, draft, end)
+}
+
+/// What a row makes of what its parts gave, where nothing was read before.
+#[tactic(auto, unfolding(es_grammar::specs::Parts::finish))]
+pub fn finish_alone(alloc: Global, makes: Product, outcome: Outcome) -> Result<Outcome, NoMemory>
+    ensures { IfOk result (λ all. all ≡ finish makes empty outcome) }
+{
+    let Outcome::Read(draft, end) = outcome else {
+        return Ok(outcome);
+    };
+    made_alone(alloc, makes, draft, end)
 }
 
 /// What a row makes of what its parts gave, behind what was read before.

@@ -9,8 +9,8 @@ ghost use Rattle.es_grammar.specs.Reading.{ReadsPart};
 ghost use Rattle.es_parser.specs.Ends.{EndsFrom, is_plain};
 ghost use Rattle.es_parser.specs.Turns.{outcome_of, turn_of};
 
-use crate::drafts::{extend, join, nothing};
-use crate::nodes::finish;
+use crate::drafts::{extend, is_empty, join, nothing};
+use crate::nodes::{finish, finish_alone};
 use crate::parts::{of_token, plain, terminal_of};
 use crate::reader::Reader;
 use crate::terminals::terminal_at;
@@ -68,7 +68,9 @@ fn settle(draft: &mut Draft, outcome: Outcome) -> Reached
 pub fn clear(alloc: Global, draft: &mut Draft)
     ensures { draft.new ≡ empty }
 {
-    *draft = nothing(alloc);
+    if !is_empty(draft) {
+        *draft = nothing(alloc);
+    }
 }
 
 /// What a symbol gave, behind what was read before it. The second draft is used up.
@@ -137,7 +139,7 @@ pub fn finished(
         return Ok(reached);
     }
     let parts = mem::replace(draft, nothing(alloc));
-    let outcome = finish(alloc, makes, nothing(alloc), outcome_of(reached, parts))?;
+    let outcome = finish_alone(alloc, makes, outcome_of(reached, parts))?;
     Ok(settle(draft, outcome))
 }
 
@@ -154,7 +156,7 @@ fn turn_of(
     if taking {
         return finish(alloc, makes, draft, outcome);
     }
-    match finish(alloc, makes, nothing(alloc), outcome)? {
+    match finish_alone(alloc, makes, outcome)? {
         Outcome::Read(turn, end) => Ok(Outcome::Read(join(draft, turn)?, end)),
         stopped => Ok(stopped),
     }
