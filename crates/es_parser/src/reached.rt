@@ -111,17 +111,15 @@ pub fn read_plain<L: Ledger>(
         (λ r. EndsFrom reader.old spot.at (outcome_of r draft.new)) }
 {
     let Some(terminal) = terminal_of(part) else {
-        let before = mem::replace(draft, nothing(alloc));
-        let outcome = plain(alloc, reader, spot, part, before, steps)?;
-        return Ok(settle(draft, outcome));
+        let reached = plain(alloc, reader, spot, part, draft, steps)?;
+        return Ok(reached);
     };
     // Most rows are left here, at their first part.
     let Some(found) = terminal_at(reader, spot.context, terminal, spot.at, steps) else {
         return Ok(Reached::Nothing);
     };
-    let before = mem::replace(draft, nothing(alloc));
-    let outcome = of_token(alloc, reader, spot, part, found, before)?;
-    Ok(settle(draft, outcome))
+    let reached = of_token(alloc, reader, spot, part, found, draft)?;
+    Ok(reached)
 }
 
 /// What a row makes of what its parts gave.

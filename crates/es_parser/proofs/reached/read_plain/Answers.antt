@@ -6,8 +6,8 @@ use Rattle.es_parser.proofs.reached.read_plain.Goals as goal
 
 pub returns-in_default-clause-reads : goal.returns-in_default-clause-reads
 returns-in_default-clause-reads g c =
-    plain_read c.args.reader.now c.args.spot c.args.part c.replace-before.result c.args.draft.now (outcome_of c.settle.result c.settle.new.draft)
-    c.in_ok-outcome.outcome (cc) c.in_ok-outcome.ensures.outcome (cc)
+    plain_read c.args.reader.now c.args.spot c.args.part c.args.draft.now c.args.draft.now (outcome_of c.in_ok-reached.reached c.plain.new.draft)
+    (outcome_of c.in_ok-reached.reached c.plain.new.draft) (cc) c.in_ok-reached.ensures.outcome (cc)
 
 pub returns-in_default-terminal_at-clause-reads : goal.returns-in_default-terminal_at-clause-reads
 returns-in_default-terminal_at-clause-reads g c =
@@ -16,6 +16,6 @@ returns-in_default-terminal_at-clause-reads g c =
 
 pub returns-clause-reads : goal.returns-clause-reads
 returns-clause-reads g c =
-    subst (λ (text : List ℕ). ReadsPart text c.args.part c.args.spot c.args.draft.now (outcome_of c.settle-2.result c.settle-2.new.draft)) c.terminal_at.ensures.same
-    (plain_read c.terminal_at.new.reader c.args.spot c.args.part c.replace-before-2.result c.args.draft.now (outcome_of c.settle-2.result c.settle-2.new.draft)
-    c.in_ok-outcome-2.outcome (cc) c.in_ok-outcome-2.ensures.outcome (cc))
+    subst (λ (text : List ℕ). ReadsPart text c.args.part c.args.spot c.args.draft.now (outcome_of c.in_ok-reached-2.reached c.of_token.new.draft)) c.terminal_at.ensures.same
+    (plain_read c.terminal_at.new.reader c.args.spot c.args.part c.args.draft.now c.args.draft.now (outcome_of c.in_ok-reached-2.reached c.of_token.new.draft)
+    (outcome_of c.in_ok-reached-2.reached c.of_token.new.draft) (cc) c.in_ok-reached-2.ensures.outcome (cc))
