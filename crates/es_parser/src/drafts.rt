@@ -2,9 +2,9 @@
 ghost use Rattle.std.specs.Prelude.{◌≡◌, ◌++◌, ◌∷◌, [], None, Some, IfOk, OnOk, length, map, option_copied};
 ghost use Rattle.std.specs.Bool.{OnTrue};
 ghost use Rattle.es_grammar.specs.Drafts.{empty, joined};
-ghost use Rattle.es_grammar.specs.Parts.{after, placed, with_child, with_setting, with_token};
+ghost use Rattle.es_grammar.specs.Parts.{placed, with_child, with_setting, with_token};
 
-use es_grammar::{Child, Draft, Field, Outcome, Setting};
+use es_grammar::{Child, Draft, Field, Setting};
 use es_text::{Items, NoMemory, Token};
 use std::alloc::Global;
 
@@ -128,33 +128,28 @@ fn place_one(field: Field, children: Vec<Child>) -> Result<Items<Child>, NoMemor
     Ok(Items::from_vec(all))
 }
 
-/// What a symbol gives, behind what was read before it.
-#[tactic(auto, unfolding(es_grammar::specs::Parts::after))]
+/// What was read before, and then more, the children of which go into this field.
 pub fn extend(
     alloc: Global,
     draft: Draft,
     field: Option<Field>,
-    outcome: Outcome,
-) -> Result<Outcome, NoMemory>
-    ensures { IfOk result (λ all. all ≡ after draft field outcome) }
+    more: Draft,
+) -> Result<Draft, NoMemory>
+    ensures { IfOk result (λ all.
+        all ≡ joined draft (record more { children = map (placed field) more.children })) }
 {
-    match outcome {
-        Outcome::Read(more, end) => {
-            let Draft {
-                children,
-                settings,
-                tokens,
-                becomes,
-            } = more;
-            let children = place(alloc, field, children)?;
-            let more = Draft {
-                children,
-                settings,
-                tokens,
-                becomes,
-            };
-            Ok(Outcome::Read(join(draft, more)?, end))
-        }
-        stopped => Ok(stopped),
-    }
+    let Draft {
+        children,
+        settings,
+        tokens,
+        becomes,
+    } = more;
+    let children = place(alloc, field, children)?;
+    let more = Draft {
+        children,
+        settings,
+        tokens,
+        becomes,
+    };
+    join(draft, more)
 }

@@ -15,7 +15,7 @@ use crate::parts::{of_token, plain, terminal_of};
 use crate::reader::Reader;
 use crate::terminals::terminal_at;
 use es_grammar::{Draft, Field, Outcome, Part, Product, Spot};
-use es_text::{NoMemory, Steps};
+use es_text::{Items, NoMemory, Steps};
 use std::alloc::Global;
 use std::mem;
 use std::sync::ledger::Ledger;
@@ -63,17 +63,22 @@ fn settle(draft: &mut Draft, outcome: Outcome) -> Reached
     }
 }
 
-/// Nothing, in place of what the draft had.
+/// Nothing, in place of what the draft had. The memory of its tokens is kept.
 #[inline(never)]
 pub fn clear(alloc: Global, draft: &mut Draft)
     ensures { draft.new ≡ empty }
 {
-    if !is_empty(draft) {
-        *draft = nothing(alloc);
+    if is_empty(draft) {
+        return;
     }
+    let mut tokens = mem::replace(&mut draft.tokens, Items::new(alloc)).into_vec();
+    tokens.clear();
+    *draft = nothing(alloc);
+    draft.tokens = Items::from_vec(tokens);
 }
 
 /// What a symbol gave, behind what was read before it. The second draft is used up.
+#[tactic(auto, unfolding(es_grammar::specs::Parts::after))]
 #[inline(never)]
 pub fn extended(
     alloc: Global,
@@ -86,10 +91,13 @@ pub fn extended(
         × (outcome_of r draft.new ≡ after draft.old field (outcome_of so_far more.old))) }
 {
     let reached = reached?;
+    let Reached::At(_) = reached else {
+        return Ok(reached);
+    };
     let before = mem::replace(draft, nothing(alloc));
     let more = mem::replace(more, nothing(alloc));
-    let outcome = extend(alloc, before, field, outcome_of(reached, more))?;
-    Ok(settle(draft, outcome))
+    *draft = extend(alloc, before, field, more)?;
+    Ok(reached)
 }
 
 /// What a part gives that reads no symbol, behind what was read before it.

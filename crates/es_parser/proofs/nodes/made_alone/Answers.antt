@@ -1,5 +1,4 @@
 use Rattle.es_grammar.specs.declared.draft.Draft.{Draft}
-use Rattle.es_grammar.specs.declared.draft.Outcome.{Outcome}
 use Rattle.es_grammar.specs.declared.draft.Outcome.TheVariants.{Read}
 use Rattle.std.proofs.Common.{◌≡◌}
 use Rattle.es_grammar.specs.Drafts.{empty, joined}
