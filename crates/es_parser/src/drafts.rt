@@ -99,7 +99,7 @@ fn place(
         return Ok(children);
     };
     if children.len() == 1 {
-        return place_one(field, children.into_vec());
+        return Ok(place_one(field, children.into_vec()));
     }
     let mut all = Vec::with_capacity(alloc, children.len())?;
     for child in children.into_vec() {
@@ -113,19 +113,14 @@ fn place(
 }
 
 /// The same for one child, whose memory is kept.
-fn place_one(field: Field, children: Vec<Child>) -> Result<Items<Child>, NoMemory>
+fn place_one(field: Field, children: Vec<Child>) -> Items<Child>
     requires { length children.items ≡ 1 }
-    ensures { IfOk result (λ all. all ≡ map (placed (Some field)) children.items) }
+    ensures { result ≡ map (placed (Some field)) children.items }
 {
     let mut all = children;
-    if let Some(child) = all.pop() {
-        let Child { field: own, shape } = child;
-        all.push(Child {
-            field: own.or(Some(field)),
-            shape,
-        })?;
-    }
-    Ok(Items::from_vec(all))
+    let child = &mut all[0];
+    child.field = child.field.or(Some(field));
+    Items::from_vec(all)
 }
 
 /// What was read before, and then more, the children of which go into this field.
