@@ -31,10 +31,10 @@ module _ (text : List ℕ) (context : Context) (at : ℕ) where
   pub none_found : Found text context at 0 0
   none_found = record { each = λ terminal h. absurd (omega arith); above = λ k h. bit_at-zero k }
 
-  pub Same : ℕ → Terminal → Type 0
+  unfoldable pub Same : ℕ → Terminal → Type 0
   Same set terminal = HasTerminal set terminal ↔ IsSome (plain_at text context terminal at)
 
-  this_one : (set new : ℕ) (terminal : Terminal) (found : Bool) → bit_at set (code_of terminal) ≡ 0 →
+  pub this_one : (set new : ℕ) (terminal : Terminal) (found : Bool) → bit_at set (code_of terminal) ≡ 0 →
       found ≡ is_some (plain_at text context terminal at) → (found ≡ true → bit_at new (code_of terminal) ≡ 1) → (found ≡ false → new ≡ set) →
       Same new terminal
   unfolding Same
@@ -65,7 +65,7 @@ module _ (text : List ℕ) (context : Context) (at : ℕ) where
       above = λ k h. let apart : k ≢ code = omega (arith, h) in others k apart ∙ before.above k (omega (arith, h));
     }
 
-no_some : (o : Option Token) → o ≡ None → IsSome o → ⊥
+pub no_some : (o : Option Token) → o ≡ None → IsSome o → ⊥
 no_some None e h = cc
 no_some (Some found) e h = cc
 

@@ -6,11 +6,15 @@ mod FixedLemmas
 mod FlagsLemmas
 mod FrontsLemmas
 mod HeightLemmas
+mod KindSetsLemmas
 mod ParsingLemmas
 mod PlacesLemmas
 mod ProgramLemmas
 mod ReadingLemmas
+mod RegExpLemmas
+mod ReservedLemmas
 mod SetsLemmas
 mod SketchesLemmas
 mod TerminalsLemmas
+mod TextCodesLemmas
 mod TextSetsLemmas

@@ -9,6 +9,7 @@ use Rattle.std.specs.Str.{bytes_eq}
 use Rattle.std.proofs.lemmas.Nat.Bits.{bit_at_above, bit_at_or, bit_at-lt}
 use Rattle.std.proofs.lemmas.Option.{slice_get_within}
 use Rattle.std.proofs.lemmas.Slice.Eq.{bytes_eq-Decides}
+use Rattle.es_tables.specs.Words.{keyword_words}
 use Rattle.es_text.specs.declared.token.LexMode.TheVariants.{Division}
 use Rattle.es_text.specs.declared.token.Token.{Token}
 use Rattle.es_text.specs.declared.token.TokenKind.{TokenKind}
@@ -39,7 +40,7 @@ below_at test zero k h low = absurd (omega (arith, low))
 below_at test (suc n) k h low =
     below_step test n k (k == n) refl (first_of_both (test n) (all_below test n) h) (below_at test n k (second_of_both (test n) (all_below test n) h)) low
 
-all_at : {X : Type 0} (test : X → Bool) (xs : List X) (i : ℕ) (x : X) → slice_get xs i ≡ Some x → list_all test xs ≡ true → test x ≡ true
+pub all_at : {X : Type 0} (test : X → Bool) (xs : List X) (i : ℕ) (x : X) → slice_get xs i ≡ Some x → list_all test xs ≡ true → test x ≡ true
 all_at test [] i x is h = absurd (cc)
 all_at test (y ∷ xs) zero x is h = let same : y ≡ x = (cc) in subst (λ one. test one ≡ true) same (first_of_both (test y) (list_all test xs) h)
 all_at test (y ∷ xs) (suc i) x is h = all_at test xs i x is (second_of_both (test y) (list_all test xs) h)
@@ -84,12 +85,12 @@ module _ (test : Terminal → Bool) (h : of_texts test ≡ true) where
       (second_of_both (list_all test classes) (all_below (λ code. test (t.Spelled code)) 105) h) (omega (arith, low))
 
 -- each set has exactly the terminals that read its text
-agree : Bool → Bool → Bool
+unfoldable pub agree : Bool → Bool → Bool
 agree true so = so
 agree false true = false
 agree false false = true
 
-agreed : (a b : Bool) → agree a b ≡ true → (a ≡ true) ↔ (b ≡ true)
+pub agreed : (a b : Bool) → agree a b ≡ true → (a ≡ true) ↔ (b ≡ true)
 unfolding agree
 agreed true b h = (λ _. h, λ _. refl)
 agreed false true h = absurd (cc)
@@ -145,6 +146,11 @@ any_in bs (text ∷ texts) h all =
     pick_in bs text texts (bytes_eq bs text) refl h (first_of_both (list_any (bytes_eq text) spellings) (spelled_all texts) all)
     (λ further. any_in bs texts further (second_of_both (list_any (bytes_eq text) spellings) (spelled_all texts) all))
 
+-- the reserved words are among them
+keywords_spelled : spelled_all keyword_words ≡ true
+unfolding spelled_all
+keywords_spelled = refl
+
 pick_at : (bs text : List ℕ) (texts : List (List ℕ)) (b : Bool) → bytes_eq bs text ≡ b → (b || list_any (bytes_eq bs) texts) ≡ true →
     (list_any (bytes_eq bs) texts ≡ true → (i : ℕ) × (slice_get texts i ≡ Some bs)) → (i : ℕ) × (slice_get (text ∷ texts) i ≡ Some bs)
 pick_at bs text texts true e h rest = let same : bs ≡ text = (bytes_eq-Decides bs text).0 e in (0, ap Some (sym same))
@@ -153,6 +159,9 @@ pick_at bs text texts false e h rest = let further = rest h in (suc further.0, f
 any_at : (bs : List ℕ) (texts : List (List ℕ)) → list_any (bytes_eq bs) texts ≡ true → (i : ℕ) × (slice_get texts i ≡ Some bs)
 any_at bs [] h = absurd (cc)
 any_at bs (text ∷ texts) h = pick_at bs text texts (bytes_eq bs text) refl h (any_at bs texts)
+
+pub keyword_at : (bs : List ℕ) → list_any (bytes_eq bs) keyword_words ≡ true → (i : ℕ) × (slice_get spellings i ≡ Some bs)
+keyword_at bs h = any_at bs spellings (any_in bs keyword_words h keywords_spelled)
 
 -- a terminal with a code from 10 on reads the plain token by its text
 module _ (text : List ℕ) (context : Context) (at : ℕ) where
@@ -303,31 +312,3 @@ pub spelled_read : (context : Context) (kind : TokenKind) (bs : List ℕ) (code 
     (reads_kind context (t.Spelled code) kind bs ≡ true) ↔ (slice_get spellings code ≡ Some bs)
 unfolding reads_kind texts_of
 spelled_read context kind bs code = by_text bs (slice_get spellings code)
-
-none_by : (context : Context) (kind : TokenKind) (bs : List ℕ) (code k : ℕ) (b : Bool) → (k == code) ≡ b → reads_kind context (t.Spelled code) kind bs ≡ false →
-    (k < code → slice_get spellings k ≡ Some bs → ⊥) → k < code + 1 → slice_get spellings k ≡ Some bs → ⊥
-none_by context kind bs code k true e fails before low is =
-    let same : k ≡ code = eqb-true k code e in
-    let reads : reads_kind context (t.Spelled code) kind bs ≡ true = (spelled_read context kind bs code).1 (subst (λ i. slice_get spellings i ≡ Some bs) same is) in cc
-none_by context kind bs code k false e fails before low is = let apart = ne_from k code e in before (omega (arith, low, apart)) is
-
-pub none_next : (context : Context) (kind : TokenKind) (bs : List ℕ) (code : ℕ) → reads_kind context (t.Spelled code) kind bs ≡ false →
-    ((k : ℕ) → 95 ≤ k → k < code → slice_get spellings k ≡ Some bs → ⊥) → (k : ℕ) → 95 ≤ k → k < code + 1 → slice_get spellings k ≡ Some bs → ⊥
-none_next context kind bs code fails before k from low is = none_by context kind bs code k (k == code) refl fails (before k from) low is
-
-all_spellings : length spellings ≡ 105
-all_spellings = refl
-
-pub none_left : (bs : List ℕ) (last : ℕ) → 105 ≤ last → ((k : ℕ) → 95 ≤ k → k < last → slice_get spellings k ≡ Some bs → ⊥) →
-    (k : ℕ) → 95 ≤ k → slice_get spellings k ≡ Some bs → ⊥
-none_left bs last high before k from is = before k from (omega (arith, slice_get_within spellings k bs is, all_spellings, high)) is
-
-none_either : (bs : List ℕ) → ((k : ℕ) → slice_get fixed_words k ≡ Some bs → ⊥) → ((k : ℕ) → 95 ≤ k → slice_get spellings k ≡ Some bs → ⊥) →
-    (k : ℕ) (b : Bool) → nat_lt k 95 ≡ b → slice_get spellings k ≡ Some bs → ⊥
-none_either bs low high k true e is = low k (sym (fixed_first k (ltb-true k 95 e)) ∙ is)
-none_either bs low high k false e is = high k (ltb-false k 95 e) is
-
-pub none_there : (bs : List ℕ) (found : Option ℕ) → ((k : ℕ) → slice_get fixed_words k ≡ Some bs → ⊥) →
-    IfNone found ((k : ℕ) → 95 ≤ k → slice_get spellings k ≡ Some bs → ⊥) → IfNone found ((k : ℕ) → slice_get spellings k ≡ Some bs → ⊥)
-none_there bs None low high = λ k is. none_either bs low high k (nat_lt k 95) refl is
-none_there bs (Some code) low high = tt

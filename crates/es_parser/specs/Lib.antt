@@ -4,8 +4,10 @@ pub mod Flags
 pub mod Found
 pub mod Fronts
 pub mod Kept
+pub mod KindSets
 pub mod Parsing
 pub mod Programs
 pub mod Sketches
+pub mod TextCodes
 pub mod TextSets
 pub mod Turns

@@ -1,12 +1,11 @@
 //! The sets of the terminals that read the texts of single tokens.
-ghost use Rattle.std.specs.Prelude.{◌≡◌, ◌≤◌, ℕ, Some, IfNone, IfSome, slice_get};
+ghost use Rattle.std.specs.Prelude.{◌≡◌, ℕ, Some, IfNone, IfSome, slice_get};
 ghost use Rattle.std.specs.Option.{unwrap_or};
 ghost use Rattle.es_grammar.specs.Terminals.{spellings};
-ghost use Rattle.es_parser.specs.Found.{fixed_words};
+ghost use Rattle.es_parser.specs.TextCodes.{key_of, text_codes};
 ghost use Rattle.es_parser.specs.TextSets.{text_sets};
 
 use es_grammar::{Context, Terminal};
-use es_tables::{keywords, punctuators};
 use es_text::TokenKind;
 
 /// By the code of a text.
@@ -118,12 +117,35 @@ static TEXT_SETS: [u128; 105] = [
     0x1000_0000_0000_0000_0000_0000_0000_0000,
 ];
 
-/// How many of the texts are punctuators, how many punctuators or reserved words, and how many there are.
-const PUNCTUATORS: u32 = 57;
-
-const FIXED: u32 = 95;
-
-const SPELLINGS: u32 = 105;
+/// By the key of a text its code; 255 is the code of no text.
+static TEXT_CODES: [u8; 512] = [
+    255, 255, 89, 255, 255, 255, 255, 255, 255, 255, 255, 255, 255, 255, 75, 255, 103, 255, 63, 40,
+    255, 255, 77, 255, 255, 255, 255, 49, 28, 57, 255, 255, 255, 255, 255, 255, 255, 255, 255, 255,
+    83, 255, 255, 255, 255, 255, 255, 255, 255, 255, 255, 255, 255, 14, 41, 255, 255, 18, 255, 97,
+    255, 50, 255, 255, 84, 62, 255, 255, 255, 255, 255, 255, 255, 255, 255, 255, 255, 255, 10, 255,
+    255, 96, 255, 255, 255, 255, 255, 16, 255, 255, 255, 24, 255, 255, 255, 255, 255, 255, 95, 255,
+    255, 255, 255, 255, 255, 255, 255, 255, 255, 42, 255, 255, 26, 12, 255, 255, 20, 255, 255, 255,
+    31, 53, 255, 255, 255, 255, 255, 255, 255, 255, 82, 255, 255, 255, 255, 32, 255, 8, 255, 255,
+    255, 255, 255, 255, 255, 255, 255, 48, 255, 255, 23, 255, 255, 255, 255, 255, 255, 255, 255,
+    255, 255, 255, 255, 255, 76, 255, 100, 255, 255, 44, 255, 255, 255, 255, 255, 3, 255, 255, 94,
+    5, 255, 255, 98, 255, 255, 255, 255, 255, 255, 255, 255, 255, 255, 255, 255, 255, 39, 15, 255,
+    255, 255, 255, 255, 47, 255, 255, 255, 255, 255, 255, 255, 255, 255, 255, 255, 255, 255, 255,
+    255, 255, 255, 255, 255, 255, 255, 255, 255, 255, 255, 255, 255, 17, 255, 255, 2, 255, 255,
+    255, 255, 255, 73, 255, 255, 255, 255, 255, 255, 255, 255, 255, 255, 255, 255, 255, 255, 255,
+    255, 255, 255, 255, 255, 255, 255, 255, 255, 255, 255, 255, 93, 101, 255, 255, 255, 255, 255,
+    255, 255, 80, 255, 255, 33, 255, 255, 255, 255, 255, 78, 255, 255, 255, 255, 255, 255, 255,
+    255, 71, 255, 4, 255, 92, 81, 255, 255, 255, 90, 255, 255, 255, 255, 255, 255, 255, 255, 255,
+    255, 255, 255, 255, 255, 255, 255, 67, 255, 66, 91, 255, 255, 255, 255, 68, 255, 255, 255, 21,
+    255, 255, 255, 255, 255, 1, 255, 255, 255, 255, 255, 255, 255, 255, 255, 104, 255, 255, 29,
+    255, 255, 255, 255, 255, 255, 255, 255, 255, 255, 255, 255, 255, 255, 255, 255, 52, 255, 255,
+    255, 255, 255, 255, 255, 255, 255, 255, 255, 45, 255, 72, 255, 255, 34, 255, 255, 255, 255,
+    255, 6, 255, 79, 255, 255, 255, 30, 255, 255, 255, 255, 55, 69, 255, 74, 255, 255, 51, 255, 22,
+    255, 37, 255, 255, 255, 255, 255, 255, 255, 255, 255, 255, 255, 255, 255, 255, 255, 255, 38,
+    88, 35, 255, 255, 255, 255, 70, 255, 255, 255, 58, 255, 54, 255, 87, 255, 36, 255, 65, 255, 19,
+    255, 255, 255, 255, 255, 0, 255, 85, 7, 255, 255, 255, 255, 255, 255, 255, 255, 46, 255, 255,
+    11, 255, 255, 255, 255, 255, 59, 56, 255, 255, 255, 255, 255, 25, 99, 255, 255, 60, 61, 255,
+    255, 255, 255, 255, 255, 86, 64, 255, 255, 43, 255, 255, 255, 13, 27, 102, 255, 255, 9, 255,
+];
 
 #[tactic(auto, unfolding(crate::specs::TextSets::text_sets))]
 fn text_sets() -> &'static [u128]
@@ -148,32 +170,40 @@ pub fn text_set(code: u32) -> u128
     }
 }
 
-/// The code of this text, if it is a punctuator or a reserved word.
-fn fixed_code(text: &str) -> Option<u32>
-    ensures some { IfSome result (λ code. slice_get fixed_words code ≡ Some text.now) }
-    ensures none { IfNone result ((code : ℕ) → slice_get fixed_words code ≡ Some text.now → ⊥) }
+#[tactic(auto, unfolding(crate::specs::TextCodes::text_codes))]
+fn text_codes() -> &'static [u8]
+    ensures { result.now ≡ text_codes }
 {
-    match punctuators().find(text) {
-        Some(row) => Some(row.code as u32),
-        None => match keywords().find(text) {
-            Some(row) => Some(PUNCTUATORS + row.code as u32),
-            None => None,
-        },
+    &TEXT_CODES
+}
+
+/// The byte at this index, or 0 where there is none.
+fn byte_at(bytes: &[u8], index: usize) -> u8
+    ensures { result ≡ unwrap_or (slice_get bytes.now index) 0 }
+{
+    match bytes.get(index) {
+        Some(byte) => *byte,
+        None => 0,
     }
 }
 
-/// The code of this text, if it is a word that the grammar names besides.
-fn contextual_code(context: Context, kind: TokenKind, text: &str) -> Option<u32>
-    ensures some { IfSome result (λ code. slice_get spellings code ≡ Some text.now) }
-    ensures none { IfNone result
-        ((code : ℕ) → FIXED ≤ code → slice_get spellings code ≡ Some text.now → ⊥) }
+/// The key of the text, which no two of the texts of single tokens share.
+fn key_of(text: &str) -> usize
+    ensures { result ≡ key_of text.now }
 {
-    for code in FIXED..SPELLINGS {
-        if Terminal::Spelled(code as u8).reads(context, kind, text) {
-            return Some(code);
-        }
+    let bytes = text.as_bytes();
+    let first = byte_at(bytes, 0) as usize;
+    let last = byte_at(bytes, bytes.len().saturating_sub(1)) as usize;
+    (34 * (bytes.len() % 512) + 452 * first + last) % 512
+}
+
+fn code_at(codes: &[u8], index: usize) -> u8
+    ensures { result ≡ unwrap_or (slice_get codes.now index) 255 }
+{
+    match codes.get(index) {
+        Some(code) => *code,
+        None => 255,
     }
-    None
 }
 
 /// The code of this text of a token, if it is one of those of single tokens.
@@ -181,8 +211,10 @@ pub fn text_code(context: Context, kind: TokenKind, text: &str) -> Option<u32>
     ensures some { IfSome result (λ code. slice_get spellings code ≡ Some text.now) }
     ensures none { IfNone result ((code : ℕ) → slice_get spellings code ≡ Some text.now → ⊥) }
 {
-    match fixed_code(text) {
-        Some(code) => Some(code),
-        None => contextual_code(context, kind, text),
+    let code = code_at(text_codes(), key_of(text));
+    if Terminal::Spelled(code).reads(context, kind, text) {
+        Some(code as u32)
+    } else {
+        None
     }
 }

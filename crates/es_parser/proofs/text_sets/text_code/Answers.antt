@@ -1,11 +1,17 @@
-use Rattle.es_grammar.specs.Terminals.{contextual_words}
-use Rattle.es_parser.specs.Found.{fixed_words}
-use Rattle.es_parser.proofs.FixedLemmas.{got_left}
-use Rattle.es_parser.proofs.TextSetsLemmas.{none_there}
+use Rattle.std.proofs.Common.{◌≡◌, ◌∙◌, sym, ap}
+use Rattle.std.specs.Prelude.{slice_get}
+use Rattle.std.specs.Option.{unwrap_or}
+use Rattle.es_parser.specs.TextCodes.{candidate, key_of, text_codes}
+use Rattle.es_parser.proofs.TextCodesLemmas.{no_code}
+use Rattle.es_parser.proofs.TextSetsLemmas.{spelled_read}
 use Rattle.es_parser.proofs.text_sets.text_code.Goals as goal
 
-pub returns-in-Some-clause-some : goal.returns-in-Some-clause-some
-returns-in-Some-clause-some c = got_left fixed_words contextual_words c.in-Some.code c.args.text.now c.in-Some.ensures.some
+pub returns-then-reads-clause-some : goal.returns-then-reads-clause-some
+returns-then-reads-clause-some c =
+    (spelled_read c.args.context c.args.kind c.args.text.now c.code_at-code.result).0 (sym c.reads.ensures ∙ c.if-reads.true)
 
-pub returns-in-None-clause-none : goal.returns-in-None-clause-none
-returns-in-None-clause-none c = none_there c.args.text.now c.contextual_code.result c.in-None.ensures.none c.contextual_code.ensures.none
+pub returns-else-reads-clause-none : goal.returns-else-reads-clause-none
+returns-else-reads-clause-none c =
+    no_code c.args.context c.args.kind c.args.text.now c.code_at-code.result
+    (c.code_at-code.ensures ∙ ap (λ codes. unwrap_or (slice_get codes c.key_of.result) 255) c.text_codes.ensures ∙ ap (λ key. unwrap_or (slice_get text_codes key) 255) c.key_of.ensures)
+    (sym c.reads.ensures ∙ c.if-reads.false)
