@@ -9,7 +9,7 @@ ghost use Rattle.es_text.specs.Tokens.{skipped_at, token};
 ghost use Rattle.es_grammar.specs.declared.draft.Outcome.TheVariants.{Not, Read};
 ghost use Rattle.es_grammar.specs.Reading.{Reads};
 ghost use Rattle.es_parser.specs.Ends.{EndsFrom};
-ghost use Rattle.es_parser.specs.Kept.{IsKeptOutcome, IsOutcome};
+ghost use Rattle.es_parser.specs.Kept.{HasTerminals, IsKeptOutcome, IsKeptSet, IsOutcome};
 
 use es_grammar::{Context, Draft, Spot, Symbol};
 use es_lexer::{has_line, next};
@@ -128,6 +128,30 @@ fn no_outcomes(alloc: Global) -> Result<Vec<Option<KeptOutcome>>, NoMemory>
         table.push(None)?;
     }
     Ok(table)
+}
+
+/// Whether the two contexts are one.
+fn is_in(one: Context, other: Context) -> bool
+    ensures { OnTrue result (one ≡ other) }
+{
+    one == other
+}
+
+/// The set, if it is that of this offset and context.
+fn set_for(kept: &Option<KeptTerminals>, at: u32, context: Context) -> Option<u128>
+    ensures { (text : List ℕ) → IsKeptSet text kept.now →
+        IfSome result (λ set. HasTerminals text context at set) }
+{
+    match kept {
+        Some(kept) => {
+            if kept.at == at && is_in(kept.context, context) {
+                Some(kept.set)
+            } else {
+                None
+            }
+        }
+        None => None,
+    }
 }
 
 /// Takes what is kept in this place of the table.
@@ -251,24 +275,11 @@ impl<'a> Reader<'a> {
     pub fn kept_terminals(&self, at: u32, context: Context) -> Option<u128>
         ensures { IfSome result (λ set. HasTerminals self.now context at set) }
     {
-        match self.terminals_in(place_of(at as u64, self.terminals.len())) {
-            Some(kept) => {
-                if kept.at == at && kept.context == context {
-                    Some(kept.set)
-                } else {
-                    None
-                }
-            }
-            None => None,
-        }
-    }
-
-    /// The set that is kept in this place.
-    fn terminals_in(&self, place: usize) -> Option<KeptTerminals>
-        ensures { IfSome result (λ kept. HasTerminals self.now kept.context kept.at kept.set) }
-    {
-        match self.terminals.get(place) {
-            Some(kept) => *kept,
+        match self
+            .terminals
+            .get(place_of(at as u64, self.terminals.len()))
+        {
+            Some(kept) => set_for(kept, at, context),
             None => None,
         }
     }
