@@ -7,7 +7,7 @@ use Rattle.std.specs.Str.{bytes_eq}
 use Rattle.std.specs.Int.{bit_at, w128}
 use Rattle.std.specs.Int.RustNames.{bit_or}
 use Rattle.std.proofs.lemmas.Option.{slice_get_past}
-use Rattle.std.proofs.lemmas.Nat.Bits.{bit_at_set_other, bit_at-zero}
+use Rattle.std.proofs.lemmas.Nat.Bits.{bit_at_or, bit_at_set_other, bit_at-lt, bit_at-zero}
 use Rattle.es_text.specs.declared.token.Token.{Token}
 use Rattle.es_text.specs.declared.token.TokenKind.{TokenKind}
 use Rattle.es_text.specs.Tokens.{token}
@@ -181,6 +181,12 @@ is_part t.UnaryOperator h = absurd (cc)
 is_part t.UpdateOperator h = absurd (cc)
 is_part (t.Spelled code) h = absurd (cc)
 
+in_first : (set more i : ℕ) → bit_at set i ≡ 1 → bit_at (bit_or set more) i ≡ 1
+in_first set more i h = omega (arith, bit_at_or set more i, bit_at-lt more i, h)
+
+in_second : (set more i : ℕ) → bit_at more i ≡ 1 → bit_at (bit_or set more) i ≡ 1
+in_second set more i h = omega (arith, bit_at_or set more i, bit_at-lt set i, h)
+
 module _ (text : List ℕ) (spot : Spot) where
   pub by_next : (terminal : Terminal) (symbol : Symbol) → BeginsNext text spot terminal symbol → CanBegin text spot (turn_rows (rule_of symbol))
   by_next terminal symbol next = next_begins terminal next.0 next.1
@@ -201,3 +207,11 @@ module _ (text : List ℕ) (spot : Spot) where
 
       pub no_beginning : CanBegin text spot (turn_rows (rule_of symbol)) → ⊥
       no_beginning (next_begins terminal begins some) = not_this terminal (goes_on terminal) refl (begins, some)
+
+    -- where neither the set nor the later parts of templates begin one
+    pub none_among : (later : ℕ) → HasTerminal later t.Middle → HasTerminal later t.Tail → (so : Bool) → so ≡ false →
+        ((terminal : Terminal) → HasTerminal (bit_or set later) terminal → BeginsTurn terminal symbol → IsTrue so) → CanBegin text spot (turn_rows (rule_of symbol)) → ⊥
+    none_among later middle tail so not_so each =
+        no_beginning so not_so (λ terminal has begins. each terminal (in_first set later (code_of terminal) has) begins)
+        (λ next. let told : so ≡ true = each t.Middle (in_second set later (code_of t.Middle) middle) next.0 in cc)
+        (λ next. let told : so ≡ true = each t.Tail (in_second set later (code_of t.Tail) tail) next.0 in cc)

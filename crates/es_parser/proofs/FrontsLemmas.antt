@@ -26,7 +26,7 @@ use Rattle.es_grammar.specs.Conditions.{holds}
 use Rattle.es_grammar.specs.Drafts.{empty}
 use Rattle.es_grammar.specs.Expressions.{expression_rule}
 use Rattle.es_grammar.specs.FirstSets.{first_of}
-use Rattle.es_grammar.specs.Firsts.{reads_nothing}
+use Rattle.es_grammar.specs.Firsts.{reads_nothing, turn_rows}
 use Rattle.es_grammar.specs.Forms.{Row, Form, Choice, More, Commas, Behind}
 use Rattle.es_grammar.specs.Functions.{function_rule}
 use Rattle.es_grammar.specs.Grammar.{rule_of}
@@ -38,7 +38,7 @@ use Rattle.es_grammar.specs.Rules.{row}
 use Rattle.es_grammar.specs.Statements.{statement_rule}
 use Rattle.es_grammar.specs.TerminalSets.{code_of}
 use Rattle.es_grammar.specs.Terminals.{terminal_at}
-use Rattle.es_parser.specs.Fronts.{at_first, front_of, has_front, is_same, lacks_part, lacks_row, lacks_symbol, lacks_terminal}
+use Rattle.es_parser.specs.Fronts.{at_first, front_of, has_front, is_same, lacks_part, lacks_row, lacks_symbol, lacks_terminal, lacks_turns, turn_front}
 use Rattle.es_parser.specs.Ends.{terminal_of}
 use Rattle.es_parser.specs.Kept.{HasTerminals, goes_on}
 use Rattle.es_parser.proofs.FixedLemmas.{first_of_both, second_of_both}
@@ -203,6 +203,145 @@ all_fronted s.ExportedName = refl
 all_fronted s.FromClause = refl
 all_fronted s.ExportsList = refl
 
+-- the rows behind a symbol's head
+has_turns : Symbol → Bool
+has_turns one = option_map_or (λ front. list_all (λ row. at_first (has_part (rank_of one) front) row.parts) (turn_rows (rule_of one))) (turn_front one) true
+
+all_turns : (one : Symbol) → has_turns one ≡ true
+unfolding code_of expression_rule first_of function_rule has_front has_part has_terminal has_turns in_front module_rule rank_of rule_of statement_rule turn_front
+all_turns s.BindingIdentifier = refl
+all_turns s.OptionalName = refl
+all_turns s.PrimaryExpression = refl
+all_turns s.ElementList = refl
+all_turns s.PropertyDefinitionList = refl
+all_turns s.PropertyValue = refl
+all_turns s.PropertyName = refl
+all_turns s.Initializer = refl
+all_turns s.TemplateLiteral = refl
+all_turns s.TemplateMiddleList = refl
+all_turns s.LeftHandSideExpression = refl
+all_turns s.CallChain = refl
+all_turns s.MemberName = refl
+all_turns s.CallChainStart = refl
+all_turns s.NewExpression = refl
+all_turns s.OptionalArguments = refl
+all_turns s.NewCallee = refl
+all_turns s.NewCalleeStart = refl
+all_turns s.Arguments = refl
+all_turns s.ArgumentList = refl
+all_turns s.UnaryExpression = refl
+all_turns s.UpdateExpression = refl
+all_turns s.ExponentiationExpression = refl
+all_turns s.MultiplicativeExpression = refl
+all_turns s.AdditiveExpression = refl
+all_turns s.ShiftExpression = refl
+all_turns s.RelationalExpression = refl
+all_turns s.RelationalOperand = refl
+all_turns s.EqualityExpression = refl
+all_turns s.BitwiseANDExpression = refl
+all_turns s.BitwiseXORExpression = refl
+all_turns s.BitwiseORExpression = refl
+all_turns s.LogicalANDExpression = refl
+all_turns s.LogicalORExpression = refl
+all_turns s.ShortCircuitExpression = refl
+all_turns s.ConditionalExpression = refl
+all_turns s.AssignmentExpression = refl
+all_turns s.DestructuringAssignment = refl
+all_turns s.SimpleAssignment = refl
+all_turns s.AssignmentPattern = refl
+all_turns s.AssignmentElementList = refl
+all_turns s.AssignmentPropertyList = refl
+all_turns s.AssignmentElement = refl
+all_turns s.AssignmentTarget = refl
+all_turns s.Expression = refl
+all_turns s.FurtherExpressions = refl
+all_turns s.Statement = refl
+all_turns s.Semicolon = refl
+all_turns s.Block = refl
+all_turns s.StatementList = refl
+all_turns s.StatementListItem = refl
+all_turns s.LexicalDeclaration = refl
+all_turns s.VariableStatement = refl
+all_turns s.DeclaratorList = refl
+all_turns s.Declarator = refl
+all_turns s.BindingTarget = refl
+all_turns s.BindingElementList = refl
+all_turns s.BindingPropertyList = refl
+all_turns s.BindingElement = refl
+all_turns s.SingleNameBinding = refl
+all_turns s.ExpressionStatement = refl
+all_turns s.IfStatement = refl
+all_turns s.ElseClause = refl
+all_turns s.DoWhileStatement = refl
+all_turns s.OptionalSemicolon = refl
+all_turns s.WhileStatement = refl
+all_turns s.ForStatement = refl
+all_turns s.ForAwaitHead = refl
+all_turns s.ForHead = refl
+all_turns s.ForInOfHead = refl
+all_turns s.ForInOfObject = refl
+all_turns s.ForDeclaration = refl
+all_turns s.ForBinding = refl
+all_turns s.ForInitializer = refl
+all_turns s.OptionalExpression = refl
+all_turns s.ContinueStatement = refl
+all_turns s.BreakStatement = refl
+all_turns s.OptionalLabel = refl
+all_turns s.ReturnStatement = refl
+all_turns s.OptionalResult = refl
+all_turns s.WithStatement = refl
+all_turns s.SwitchStatement = refl
+all_turns s.CaseClauses = refl
+all_turns s.CaseClause = refl
+all_turns s.LabelledStatement = refl
+all_turns s.ThrowStatement = refl
+all_turns s.TryStatement = refl
+all_turns s.TryClauses = refl
+all_turns s.CatchClause = refl
+all_turns s.CatchParameter = refl
+all_turns s.Finally = refl
+all_turns s.OptionalFinally = refl
+all_turns s.DebuggerStatement = refl
+all_turns s.FormalParameters = refl
+all_turns s.FunctionRest = refl
+all_turns s.FunctionBody = refl
+all_turns s.FunctionDeclaration = refl
+all_turns s.DefaultFunction = refl
+all_turns s.FunctionExpression = refl
+all_turns s.ArrowFunction = refl
+all_turns s.ArrowParameters = refl
+all_turns s.ConciseBody = refl
+all_turns s.Method = refl
+all_turns s.AsyncMethod = refl
+all_turns s.GeneratorMethod = refl
+all_turns s.AsyncGeneratorMethod = refl
+all_turns s.YieldExpression = refl
+all_turns s.YieldOperand = refl
+all_turns s.ClassDeclaration = refl
+all_turns s.DefaultClass = refl
+all_turns s.ClassExpression = refl
+all_turns s.ClassHeritage = refl
+all_turns s.ClassBody = refl
+all_turns s.ClassElementList = refl
+all_turns s.ClassElement = refl
+all_turns s.ClassElementValue = refl
+all_turns s.ConstructorName = refl
+all_turns s.PrefixedMethod = refl
+all_turns s.ClassElementName = refl
+all_turns s.ModuleItem = refl
+all_turns s.ModuleExportName = refl
+all_turns s.ImportDeclaration = refl
+all_turns s.ImportClause = refl
+all_turns s.FurtherImports = refl
+all_turns s.ImportedDefaultBinding = refl
+all_turns s.NameSpaceImport = refl
+all_turns s.NamedImports = refl
+all_turns s.ImportsList = refl
+all_turns s.ExportDeclaration = refl
+all_turns s.ExportedName = refl
+all_turns s.FromClause = refl
+all_turns s.ExportsList = refl
+
 -- truth
 not_true : (b : Bool) → not b ≡ true → b ≡ false
 not_true true h = cc
@@ -277,6 +416,12 @@ fronted : (one : Symbol) (front : ℕ) → front_of one ≡ Some front → has_r
 unfolding is_fronted
 fronted one front is =
     subst (λ (o : Option ℕ). option_map_or (λ front. has_rule (rank_of one) front (rule_of one)) o true ≡ true) is (all_fronted one)
+
+turns_told : (one : Symbol) (front : ℕ) → turn_front one ≡ Some front →
+    list_all (λ row. at_first (has_part (rank_of one) front) row.parts) (turn_rows (rule_of one)) ≡ true
+unfolding has_turns
+turns_told one front is =
+    subst (λ (o : Option ℕ). option_map_or (λ front. list_all (λ row. at_first (has_part (rank_of one) front) row.parts) (turn_rows (rule_of one))) o true ≡ true) is (all_turns one)
 
 module _ (text : List ℕ) (spot : Spot) where
   -- parts that aren't there, whatever was read before
@@ -435,6 +580,16 @@ module _ (text : List ℕ) (spot : Spot) where
 
     pub lacks_rows : (rows : List Row) → list_all (lacks_row set) rows ≡ true → (seed : Draft) → ReadsChoice text rows spot seed Not
     lacks_rows rows h seed = rows_missing (lacks_part set) lacks_gone (lacks_none set) rows h seed
+
+    turns_gone : (one : Symbol) (own : Option ℕ) → turn_front one ≡ own → option_map_or (λ front. bit_and front set == 0) own false ≡ true → (seed : Draft) →
+        ReadsChoice text (turn_rows (rule_of one)) spot seed Not
+    turns_gone one None is h = absurd (cc)
+    turns_gone one (Some front) is h =
+        rows_missing (has_part (rank_of one) front) (has_gone (rank_of one) front (symbols_gone (rank_of one)) (never_in front h)) (has_none (rank_of one) front)
+        (turn_rows (rule_of one)) (turns_told one front is)
+
+    pub lacks_turns_gone : (one : Symbol) → lacks_turns set one ≡ true → (seed : Draft) → ReadsChoice text (turn_rows (rule_of one)) spot seed Not
+    lacks_turns_gone one h = turns_gone one (turn_front one) refl h
 
 -- lists that are gone over
 pub first_step : (test : Part → Option Bool) (d : Part) (ps : List Part) (i : ℕ) → i < length ps →

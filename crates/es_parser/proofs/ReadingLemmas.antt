@@ -571,3 +571,11 @@ after_empty (Read more end) =
 pub after_bare : {draft : Draft} {field : Option Field} (q : Outcome) → field ≡ None → draft ≡ empty → q ≡ after draft field q
 after_bare {draft} {field} q none bare =
     subst (λ before. q ≡ after before field q) (sym bare) (subst (λ own. q ≡ after empty own q) (sym none) (after_empty q))
+
+-- a head behind which no turn comes
+pub behind_quiet : {text : List ℕ} {symbol : Symbol} {spot : Spot} {draft : Draft} {end : ℕ} {q : Reached} → q ≡ At end →
+    IsOver text (turn_rows (rule_of symbol)) (moved spot end) → ReadsBehind text symbol spot (outcome_of q draft) (Read draft end)
+behind_quiet {text} {symbol} {spot} {draft} {end} {q} comes none = λ head its rule_is head_reads.
+    let own : IsOver text its.rows (moved spot end) = subst (λ rows. IsOver text rows (moved spot end)) (ap turn_rows rule_is) none in
+    behind rule_is (subst (λ q. Reads text head spot (outcome_of q draft)) comes head_reads)
+    (over_or_left text (moved spot end) its draft (all_hold text (moved spot end) draft its.conditions) refl (own.reads (taken its draft)) own.never)

@@ -89,3 +89,33 @@ at_first test (p ∷ ps) = unwrap_or (test p) (at_first test ps)
 
 abbrev pub lacks_row : ℕ → Row → Bool
 lacks_row set row = at_first (lacks_part set) row.parts
+
+-- the set of the terminals that begin the turns behind a symbol's head
+unfoldable pub turn_front : Symbol → Option ℕ
+turn_front s.CallChain = Some 0x4000000054000c0
+turn_front s.NewCallee = Some 0x50000c0
+turn_front s.UpdateExpression = Some 0x80000
+turn_front s.ExponentiationExpression = Some 0x80000000000
+turn_front s.MultiplicativeExpression = Some 0x20000
+turn_front s.AdditiveExpression = Some 0x10000
+turn_front s.ShiftExpression = Some 0x8000
+turn_front s.RelationalExpression = Some 0x2000000000000000000004000
+turn_front s.EqualityExpression = Some 0x2000
+turn_front s.BitwiseANDExpression = Some 0x2000000000000
+turn_front s.BitwiseXORExpression = Some 0x8000000000000
+turn_front s.BitwiseORExpression = Some 0x4000000000000
+turn_front s.LogicalANDExpression = Some 0x40000000000000
+turn_front s.LogicalORExpression = Some 0x80000000000000
+turn_front s.ShortCircuitExpression = Some 0x100000000000000
+turn_front s.ConditionalExpression = Some 0x200000000000000
+turn_front s.SimpleAssignment = Some 0x1000
+turn_front s.AssignmentElement = Some 0x1000000000000000
+turn_front s.Expression = Some 0x20000000
+turn_front s.DeclaratorList = Some 0x20000000
+turn_front s.BindingElement = Some 0x1000000000000000
+turn_front s.SingleNameBinding = Some 0x1000000000000000
+turn_front other = None
+
+-- none of the set's terminals begins a turn behind the symbol's head
+abbrev pub lacks_turns : ℕ → Symbol → Bool
+lacks_turns set symbol = option_map_or (λ front. bit_and front set == 0) (turn_front symbol) false

@@ -35,7 +35,7 @@ fn begins_with<L: Ledger>(
 }
 
 /// The set of the terminals that read later parts of templates.
-const LATER_PARTS: u128 = 0x300;
+pub const LATER_PARTS: u128 = 0x300;
 
 /// Whether the next token can begin a turn of the symbol's rule. The set has the terminals that read it.
 #[tactic(auto, unfolding(es_grammar::specs::TerminalSets::code_of))]

@@ -4,15 +4,19 @@ ghost use Rattle.std.specs.Bool.{OnTrue};
 ghost use Rattle.std.specs.List.{list_all};
 ghost use Rattle.es_grammar.specs.declared.draft.Draft.{Draft as DraftOf};
 ghost use Rattle.es_grammar.specs.declared.draft.Outcome.TheVariants.{Not};
+ghost use Rattle.es_grammar.specs.Firsts.{turn_rows};
+ghost use Rattle.es_grammar.specs.Grammar.{rule_of};
 ghost use Rattle.es_grammar.specs.Reading.{ReadsChoice, ReadsParts};
 ghost use Rattle.es_grammar.specs.Rules.{row};
 ghost use Rattle.es_parser.specs.Fronts.{at_first, front_of, is_same, lacks_part, lacks_row};
-ghost use Rattle.es_parser.specs.Fronts.{lacks_symbol, lacks_terminal};
+ghost use Rattle.es_parser.specs.Fronts.{lacks_symbol, lacks_terminal, lacks_turns, turn_front};
 ghost use Rattle.es_parser.specs.Kept.{HasTerminals};
+ghost use Rattle.es_parser.specs.Turns.{IsOver};
 
+use crate::beginnings::LATER_PARTS;
 use crate::reader::Reader;
 use crate::terminals::has;
-use es_grammar::{Alternative, Change, Part, Spot, Symbol, Terminal};
+use es_grammar::{Alternative, Change, Part, Spot, Symbol, Terminal, can_begin};
 
 /// The set that stands before the symbol among these.
 macro_rules! fronts {
@@ -73,6 +77,26 @@ fn front_of(symbol: Symbol) -> Option<u128>
         0x1_0000_0000_0000_0000_0000_0000: ImportDeclaration, 0x100_0010_0002: ImportClause,
         0x100_0000_0000: NameSpaceImport, 0x200_0000_0000_0000_0000_0000: ExportDeclaration
     ]
+}
+
+/// The set of the terminals that begin the turns behind the symbol's head.
+#[tactic(auto, unfolding(crate::specs::Fronts::turn_front))]
+fn turn_front(symbol: Symbol) -> Option<u128>
+    ensures { result ≡ turn_front symbol }
+{
+    fronts![symbol;
+        0x400_0000_0540_00c0: CallChain, 0x500_00c0: NewCallee, 0x8_0000: UpdateExpression, 0x800_0000_0000: ExponentiationExpression, 0x2_0000: MultiplicativeExpression, 0x1_0000: AdditiveExpression, 0x8000: ShiftExpression, 0x2_0000_0000_0000_0000_0000_4000: RelationalExpression, 0x2000: EqualityExpression, 0x2_0000_0000_0000: BitwiseANDExpression, 0x8_0000_0000_0000: BitwiseXORExpression, 0x4_0000_0000_0000: BitwiseORExpression, 0x40_0000_0000_0000: LogicalANDExpression, 0x80_0000_0000_0000: LogicalORExpression, 0x100_0000_0000_0000: ShortCircuitExpression, 0x200_0000_0000_0000: ConditionalExpression, 0x1000: SimpleAssignment, 0x1000_0000_0000_0000: AssignmentElement BindingElement SingleNameBinding, 0x2000_0000: Expression DeclaratorList
+    ]
+}
+
+/// Whether none of the set's terminals begins a turn behind the symbol's head.
+fn lacks_turns(set: u128, symbol: Symbol) -> bool
+    ensures { result ≡ lacks_turns set symbol }
+{
+    match turn_front(symbol) {
+        Some(front) => front & set == 0,
+        None => false,
+    }
 }
 
 /// Whether none of the set's terminals begins the symbol.
@@ -161,4 +185,16 @@ pub fn are_missing(_reader: &Reader, set: u128, rows: &[Alternative], spot: Spot
         ((seed : DraftOf) → ReadsChoice _reader.now (map row rows.now) spot seed Not) }
 {
     lacks_rows(set, rows)
+}
+
+/// Whether no turn comes behind the symbol's head, since none of the tokens is next with which one begins.
+/// The set has the terminals that read the next token.
+pub fn is_quiet(_reader: &Reader, symbol: Symbol, set: u128, spot: Spot) -> bool
+    requires { HasTerminals _reader.now spot.context spot.at set }
+    ensures { OnTrue result (IsOver _reader.now (turn_rows (rule_of symbol)) spot) }
+{
+    if !lacks_turns(set, symbol) {
+        return false;
+    }
+    !can_begin(symbol, set | LATER_PARTS)
 }

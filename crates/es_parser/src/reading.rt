@@ -19,7 +19,7 @@ ghost use Rattle.es_parser.specs.Turns.{IsOver, ReadsBehind, ReadsInto, head_of,
 use crate::beginnings::{can_begin, can_begin_among};
 use crate::conditions::all_hold;
 use crate::drafts::{add_token, is_bare, nothing};
-use crate::fronts::{are_missing, is_missing};
+use crate::fronts::{are_missing, is_missing, is_quiet};
 use crate::heads::{changed, head_of};
 use crate::reached::{Found, Reached, clear, extended, finished, grown, outcome_of, read_plain};
 use crate::reader::Reader;
@@ -692,13 +692,19 @@ fn turns_behind<L: Ledger>(
         (λ r. EndsFrom reader.old spot.at (outcome_of r draft.new)) }
 {
     match head {
-        Reached::At(end) => match rule_at(symbol) {
-            Rule::Behind(_, more) => {
-                let behind = Spot { at: end, ..spot };
-                turns(alloc, reader, symbol, more, true, behind, draft, steps)
+        Reached::At(end) => {
+            let behind = Spot { at: end, ..spot };
+            let set = terminals_at(reader, behind, steps);
+            if is_quiet(reader, symbol, set, behind) {
+                return Ok(Reached::At(end));
             }
-            _ => Ok(head),
-        },
+            match rule_at(symbol) {
+                Rule::Behind(_, more) => {
+                    turns(alloc, reader, symbol, more, true, behind, draft, steps)
+                }
+                _ => Ok(head),
+            }
+        }
         stopped => Ok(stopped),
     }
 }

@@ -5,13 +5,15 @@ use Rattle.es_grammar.specs.declared.part.Product.TheVariants as product
 use Rattle.es_grammar.specs.Drafts.{empty}
 use Rattle.es_grammar.specs.Parts.{finish}
 use Rattle.es_grammar.specs.Ranks.{rank_of}
-use Rattle.es_grammar.specs.Rules.{row}
-use Rattle.std.specs.Prelude.{false, Some, None}
+use Rattle.es_grammar.specs.Firsts.{turn_rows}
+use Rattle.es_grammar.specs.Grammar.{rule_of}
+use Rattle.es_grammar.specs.Rules.{row, turns}
+use Rattle.std.specs.Prelude.{false, true, Some, None}
 use Rattle.es_grammar.specs.Contexts.{moved}
-use Rattle.es_grammar.specs.Reading.{Reads, ReadsCommas, ReadsParts, comma_at}
+use Rattle.es_grammar.specs.Reading.{Reads, ReadsCommas, ReadsParts, ReadsTurns, comma_at}
 use Rattle.es_parser.specs.Ends.{EndsFrom}
 use Rattle.es_parser.specs.Turns.{IsOver, outcome_of}
-use Rattle.es_parser.proofs.ReadingLemmas.{after_bare, if_ok, at_ok, at_ends, behind_none, behind_stopped, behind_turns, by_list, by_more, by_rows, can_in, deeper_read, ends_later, extended_ends, finished_ends, grown_ends, is_not_unless, list_broken, list_last, list_next, list_over, list_stop, moves_on, no_room, parts_done, parts_step, parts_stop, refused, rows_below_at, rows_first, rows_next, rows_none, stops_unless_at, symbol_below, symbol_read, turns_last, turns_left, turns_next, turns_over, turns_over_at_once, turns_stop, turns_stuck}
+use Rattle.es_parser.proofs.ReadingLemmas.{after_bare, if_ok, at_ok, at_ends, behind_none, behind_quiet, behind_stopped, behind_turns, by_list, by_more, by_rows, can_in, deeper_read, ends_later, extended_ends, finished_ends, grown_ends, is_not_unless, list_broken, list_last, list_next, list_over, list_stop, moves_on, no_room, parts_done, parts_step, parts_stop, refused, rows_below_at, rows_first, rows_next, rows_none, stops_unless_at, symbol_below, symbol_read, turns_last, turns_left, turns_next, turns_over, turns_over_at_once, turns_stop, turns_stuck}
 use Rattle.std.specs.Prelude.{All, IfSome}
 use Rattle.std.proofs.Common.{◌++◌, ◌-◌}
 use Rattle.es_grammar.specs.declared.draft.Draft.{Draft}
@@ -339,18 +341,32 @@ pub read_into-refuse_if-requires : goal.read_into-refuse_if-requires
 read_into-refuse_if-requires g t c = refused c.read_headless.new.draft c.in_ok-reached-in-None.reached
     (subst (λ text. Reads text c.args.symbol c.args.spot (outcome_of c.in_ok-reached-in-None.reached c.read_headless.new.draft)) (sym c.in_ok-reached-in-None.ensures.same) c.in_ok-reached-in-None.ensures.reads)
 
+pub turns_behind-returns-then-is_quiet : goal.turns_behind-returns-then-is_quiet
+turns_behind-returns-then-is_quiet g t c =
+    record {
+      same = c.terminals_at-set.ensures.same;
+      reads = behind_quiet c.in-At.is
+          (subst (λ text. IsOver text (turn_rows (rule_of c.args.symbol)) (moved c.args.spot c.in-At.end)) c.terminals_at-set.ensures.same c.if-is_quiet.ensures);
+      ends = at_ends c.args.spot.at c.args.head c.args.draft.now refl c.in-At.is c.requires;
+    }
+
 pub turns_behind-returns-in-Behind-clause-reads : goal.turns_behind-returns-in-Behind-clause-reads
 turns_behind-returns-in-Behind-clause-reads g t c =
-    if_ok _ _ c.turns.result (λ r h. behind_turns c.in-Behind.more c.in-Behind.is c.rule_at.ensures.rule c.in-At.is h) c.turns.ensures.reads
+    if_ok _ _ c.turns.result
+    (λ r h. behind_turns c.in-Behind.more c.in-Behind.is c.rule_at.ensures.rule c.in-At.is
+    (subst (λ text. ReadsTurns text (turns true c.in-Behind.more) (moved c.args.spot c.in-At.end) c.args.draft.now (outcome_of r c.turns.new.draft)) c.terminals_at-set.ensures.same h))
+    c.turns.ensures.reads
 
 pub turns_behind-returns-in-Behind-clause-ends : goal.turns_behind-returns-in-Behind-clause-ends
 turns_behind-returns-in-Behind-clause-ends g t c =
     let ended = at_ends c.args.spot.at c.args.head c.args.draft.now refl c.in-At.is c.requires in
-    if_ok _ _ c.turns.result (λ r h. ends_later c.args.reader.now c.args.spot.at c.in-At.end (outcome_of r c.turns.new.draft) ended.0 h) c.turns.ensures.ends
+    if_ok _ _ c.turns.result
+    (λ r h. ends_later c.args.reader.now c.args.spot.at c.in-At.end (outcome_of r c.turns.new.draft) ended.0
+    (subst (λ text. EndsFrom text c.in-At.end (outcome_of r c.turns.new.draft)) c.terminals_at-set.ensures.same h)) c.turns.ensures.ends
 
 pub turns_behind-returns-in_default-rule_at : goal.turns_behind-returns-in_default-rule_at
 turns_behind-returns-in_default-rule_at g t c =
-    record { same = refl; reads = behind_none c.rule_at.result c.rule_at.ensures.rule c.in_default-rule_at.not-Behind; ends = at_ends c.args.spot.at c.args.head c.args.draft.now refl c.in-At.is c.requires }
+    record { same = c.terminals_at-set.ensures.same; reads = behind_none c.rule_at.result c.rule_at.ensures.rule c.in_default-rule_at.not-Behind; ends = at_ends c.args.spot.at c.args.head c.args.draft.now refl c.in-At.is c.requires }
 
 pub turns_behind-returns-in_default : goal.turns_behind-returns-in_default
 turns_behind-returns-in_default g t c =
