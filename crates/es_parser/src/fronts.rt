@@ -85,7 +85,15 @@ fn turn_front(symbol: Symbol) -> Option<u128>
     ensures { result ≡ turn_front symbol }
 {
     fronts![symbol;
-        0x400_0000_0540_00c0: CallChain, 0x500_00c0: NewCallee, 0x8_0000: UpdateExpression, 0x800_0000_0000: ExponentiationExpression, 0x2_0000: MultiplicativeExpression, 0x1_0000: AdditiveExpression, 0x8000: ShiftExpression, 0x2_0000_0000_0000_0000_0000_4000: RelationalExpression, 0x2000: EqualityExpression, 0x2_0000_0000_0000: BitwiseANDExpression, 0x8_0000_0000_0000: BitwiseXORExpression, 0x4_0000_0000_0000: BitwiseORExpression, 0x40_0000_0000_0000: LogicalANDExpression, 0x80_0000_0000_0000: LogicalORExpression, 0x100_0000_0000_0000: ShortCircuitExpression, 0x200_0000_0000_0000: ConditionalExpression, 0x1000: SimpleAssignment, 0x1000_0000_0000_0000: AssignmentElement BindingElement SingleNameBinding, 0x2000_0000: Expression DeclaratorList
+        0x400_0000_0540_00c0: CallChain, 0x500_00c0: NewCallee, 0x8_0000: UpdateExpression,
+        0x800_0000_0000: ExponentiationExpression, 0x2_0000: MultiplicativeExpression, 0x1_0000:
+        AdditiveExpression, 0x8000: ShiftExpression, 0x2_0000_0000_0000_0000_0000_4000:
+        RelationalExpression, 0x2000: EqualityExpression, 0x2_0000_0000_0000: BitwiseANDExpression,
+        0x8_0000_0000_0000: BitwiseXORExpression, 0x4_0000_0000_0000: BitwiseORExpression,
+        0x40_0000_0000_0000: LogicalANDExpression, 0x80_0000_0000_0000: LogicalORExpression,
+        0x100_0000_0000_0000: ShortCircuitExpression, 0x200_0000_0000_0000: ConditionalExpression,
+        0x1000: SimpleAssignment, 0x1000_0000_0000_0000: AssignmentElement BindingElement
+        SingleNameBinding, 0x2000_0000: Expression DeclaratorList
     ]
 }
 
