@@ -6,7 +6,7 @@ ghost use Rattle.std.specs.Option.{is_some};
 ghost use Rattle.std.specs.Str.{bytes_eq};
 ghost use Rattle.es_early.specs.Lookups.{declares_beside, declares_lexically};
 ghost use Rattle.es_early.specs.Declarations.{IsRedeclared, binding_of};
-ghost use Rattle.es_early.specs.Declarations.{is_lexical, is_lexical_binding};
+ghost use Rattle.es_early.specs.Declarations.{is_lexical_binding};
 ghost use Rattle.es_early.specs.Notes.{HasFirsts, is_noted_before, noted, noted_at};
 
 use crate::binding::{Binding, binding_of};

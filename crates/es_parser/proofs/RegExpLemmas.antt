@@ -2,7 +2,6 @@
 use Rattle.std.proofs.Common.{◌≡◌, ◌∙◌, ℕ, List, [], ◌∷◌, length, Bool, true, false, Option, Some, None, refl, sym, ap, subst, eqb-true}
 use Rattle.std.specs.Prelude.{◌==◌, ◌&&◌, cond, drop, if◌then◌else◌, is_some, nat_eq}
 use Rattle.std.specs.Option.{option_map, option_or}
-use Rattle.es_text.specs.declared.token.LexMode.{LexMode}
 use Rattle.es_text.specs.declared.token.LexMode.TheVariants as mode
 use Rattle.es_text.specs.declared.token.Token.{Token}
 use Rattle.es_text.specs.declared.token.TokenKind.{TokenKind}
@@ -15,7 +14,7 @@ use Rattle.es_text.specs.Skipped.{hold_line}
 use Rattle.es_text.specs.Tokens.{Form, behind_skipped, by_mode, first_offset, form, name, of_kind, private_name, punctuator, regular_expression, skipped_at, string, template, template_character, template_end, token}
 use Rattle.es_grammar.specs.declared.context.Context.{Context}
 use Rattle.es_grammar.specs.declared.part.Terminal.TheVariants as t
-use Rattle.es_grammar.specs.Terminals.{kind_index, mode_of, read_by, reads_kind, same_kind, terminal_at, text_of}
+use Rattle.es_grammar.specs.Terminals.{kind_index, mode_of, read_by, reads_kind, same_kind, terminal_at}
 use Rattle.es_parser.specs.KindSets.{is_slash}
 use Rattle.es_parser.specs.Kept.{plain_at}
 

@@ -1,13 +1,12 @@
 -- The terminals that read a token by its text.
-use Rattle.std.proofs.Common.{◌≡◌, ◌<◌, ◌≤◌, ◌+◌, ◌∙◌, ◌^◌, ℕ, zero, suc, List, [], ◌∷◌, length, Bool, true, false, Option, Some, None, refl, sym, ap, subst, arith, max, eqb-true, eq-eqb, ltb-true, ltb-false}
-use Rattle.std.specs.Prelude.{◌↔◌, IfNone, ◌==◌, ◌&&◌, ◌||◌, IsSome, nat_lt, slice_get}
+use Rattle.std.proofs.Common.{◌≡◌, ◌<◌, ◌≤◌, ◌∙◌, ◌^◌, ℕ, zero, suc, List, [], ◌∷◌, Bool, true, false, Option, Some, None, refl, sym, ap, subst, arith, max, eqb-true, eq-eqb, ltb-true, ltb-false}
+use Rattle.std.specs.Prelude.{◌↔◌, ◌==◌, ◌&&◌, ◌||◌, IsSome, nat_lt, slice_get}
 use Rattle.std.specs.Int.{bit_at}
 use Rattle.std.specs.Option.{unwrap_or}
 use Rattle.std.specs.Int.RustNames.{bit_or}
 use Rattle.std.specs.List.{list_all, list_any}
 use Rattle.std.specs.Str.{bytes_eq}
 use Rattle.std.proofs.lemmas.Nat.Bits.{bit_at_above, bit_at_or, bit_at-lt}
-use Rattle.std.proofs.lemmas.Option.{slice_get_within}
 use Rattle.std.proofs.lemmas.Slice.Eq.{bytes_eq-Decides}
 use Rattle.es_tables.specs.Words.{keyword_words}
 use Rattle.es_text.specs.declared.token.LexMode.TheVariants.{Division}
@@ -19,11 +18,11 @@ use Rattle.es_grammar.specs.declared.part.Terminal.{Terminal}
 use Rattle.es_grammar.specs.declared.part.Terminal.TheVariants as t
 use Rattle.es_grammar.specs.TerminalSets.{HasTerminal, code_of}
 use Rattle.es_grammar.specs.Terminals.{mode_of, read_by, reads_kind, spellings, terminal_at, text_of, texts_of}
-use Rattle.es_parser.specs.Found.{Found, fixed_words}
+use Rattle.es_parser.specs.Found.{Found}
 use Rattle.es_parser.specs.Kept.{plain_at}
 use Rattle.es_parser.specs.TextSets.{text_sets}
 use Rattle.es_parser.proofs.BeginningsLemmas.{ne_from}
-use Rattle.es_parser.proofs.FixedLemmas.{by_text, first_of_both, fixed_first, second_of_both, some_read}
+use Rattle.es_parser.proofs.FixedLemmas.{by_text, first_of_both, second_of_both, some_read}
 
 -- tests of all terminals that read by texts
 all_below : (ℕ → Bool) → ℕ → Bool

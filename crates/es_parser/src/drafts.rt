@@ -1,5 +1,5 @@
 //! What was read and isn't yet in a node.
-ghost use Rattle.std.specs.Prelude.{◌≡◌, ◌++◌, ◌∷◌, [], None, Some, IfOk, OnOk, length, map, option_copied};
+ghost use Rattle.std.specs.Prelude.{◌≡◌, ◌++◌, None, Some, IfOk, OnOk, length, map};
 ghost use Rattle.std.specs.Bool.{OnTrue};
 ghost use Rattle.es_grammar.specs.Drafts.{empty, joined};
 ghost use Rattle.es_grammar.specs.Parts.{placed, with_child, with_setting, with_token};

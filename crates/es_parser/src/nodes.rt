@@ -1,5 +1,5 @@
 //! The nodes that are made of what was read.
-ghost use Rattle.std.specs.Prelude.{◌≡◌, ◌≤◌, ◌<◌, nat_lt, ◌∷◌, [], map, Some, None, IfOk, IfSome, IfNone, ℕ};
+ghost use Rattle.std.specs.Prelude.{◌≡◌, ◌≤◌, ◌<◌, nat_lt, ◌∷◌, [], map, Some, None, IfOk, IfSome, IfNone};
 ghost use Rattle.std.specs.Option.{unwrap_or};
 ghost use Rattle.std.specs.Str.{chars};
 ghost use Rattle.es_tables.specs.Nodes.{field_index, node_rows};

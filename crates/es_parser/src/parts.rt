@@ -14,7 +14,7 @@ use crate::drafts::{add_child, add_setting, add_token};
 use crate::leaves::{flag, leaf_child, words};
 use crate::reached::Reached;
 use crate::reader::Reader;
-use es_grammar::{Child, Condition, Draft, Field, MemberKind, Part, Setting, Spot, Terminal};
+use es_grammar::{Child, Condition, Draft, Field, MemberKind, Part, Spot, Terminal};
 use es_text::{Items, NoMemory, Steps, Token};
 use std::alloc::Global;
 use std::mem;

@@ -1,6 +1,5 @@
 //! Where each name of a tree is declared.
 ghost use Rattle.std.specs.Prelude.{◌≡◌, ◌<◌, [], length, IfOk, OnOk};
-ghost use Rattle.es_scopes.specs.Bindings.{plain_functions};
 ghost use Rattle.es_scopes.specs.Chains.{AreNested};
 ghost use Rattle.es_scopes.specs.Declarations.{by_scope, declarations, declared_arguments};
 ghost use Rattle.es_scopes.specs.Declarations.{declared_at, declared_inside, declared_outside};

@@ -6,7 +6,7 @@ ghost use Rattle.es_scopes.specs.declared.field.TheConstants.{MEMBER_COMPUTED, M
 ghost use Rattle.es_scopes.specs.Bindings.{if_some};
 ghost use Rattle.es_scopes.specs.Uses.{is_assigned, is_bare, is_fixed, is_given, is_head, is_key};
 ghost use Rattle.es_scopes.specs.Uses.{is_label, is_name, is_plain, is_specified, is_updated};
-ghost use Rattle.es_scopes.specs.Uses.{is_valued, pattern_use, some_use, use_of};
+ghost use Rattle.es_scopes.specs.Uses.{is_valued, pattern_use, use_of};
 
 use crate::bindings::{pattern_around, pattern_kind};
 use crate::deciding::{is_in_namer, is_in_user};

@@ -14,15 +14,13 @@ use Rattle.es_grammar.specs.Reading.{Reads, ReadsCommas, ReadsParts, ReadsTurns,
 use Rattle.es_parser.specs.Ends.{EndsFrom}
 use Rattle.es_parser.specs.Turns.{IsOver, outcome_of}
 use Rattle.es_parser.proofs.ReadingLemmas.{after_bare, if_ok, at_ok, at_ends, behind_none, behind_quiet, behind_stopped, behind_turns, by_list, by_more, by_rows, can_in, deeper_read, ends_later, extended_ends, finished_ends, grown_ends, is_not_unless, list_broken, list_last, list_next, list_over, list_stop, moves_on, no_room, parts_done, parts_step, parts_stop, refused, rows_below_at, rows_first, rows_next, rows_none, stops_unless_at, symbol_below, symbol_read, turns_last, turns_left, turns_next, turns_over, turns_over_at_once, turns_stop, turns_stuck}
-use Rattle.std.specs.Prelude.{All, IfSome}
-use Rattle.std.proofs.Common.{◌++◌, ◌-◌}
-use Rattle.es_grammar.specs.declared.draft.Draft.{Draft}
+use Rattle.std.proofs.Common.{◌++◌}
 use Rattle.es_grammar.specs.declared.draft.Outcome.TheVariants.{Not, Deep, Read}
 use Rattle.es_grammar.specs.Drafts.{joined}
 use Rattle.es_grammar.specs.Parts.{with_token}
 use Rattle.es_grammar.specs.Reading.{ReadsChoice, ReadsPart, broken, deep_item, last_item, next_item, no_more}
-use Rattle.es_parser.specs.declared.reached.Reached.TheVariants.{Nothing, TooDeep, At}
-use Rattle.es_parser.specs.Sketches.{IsFaint, ReachesFrom, Sketched, all_lower}
+use Rattle.es_parser.specs.declared.reached.Reached.TheVariants.{TooDeep}
+use Rattle.es_parser.specs.Sketches.{ReachesFrom, Sketched}
 use Rattle.es_parser.proofs.HeightLemmas.{lower_joined}
 use Rattle.es_parser.proofs.SketchesLemmas.{behind_sketched, choice_sketched, deeper_sketched, faint_empty, faint_low, head_stops, inner_sketched, list_sketched, nothing_of, option_ends, option_over, option_reads, option_stuck, row_sketched, stop_ends, told_nothing, with_none}
 use Rattle.es_parser.proofs.reading.+reading.Goals as goal

@@ -1,4 +1,4 @@
-use Rattle.std.proofs.Common.{◌≡◌, ◌∙◌, sym}
+use Rattle.std.proofs.Common.{◌∙◌, sym}
 use Rattle.es_parser.proofs.RegExpLemmas.{no_slash}
 use Rattle.es_parser.proofs.sets.begins_regexp.Goals as goal
 

@@ -1,4 +1,4 @@
-use Rattle.std.proofs.Common.{ℕ, List, subst, sym, ◌∙◌}
+use Rattle.std.proofs.Common.{ℕ, List, subst}
 use Rattle.es_parser.specs.Found.{Found}
 use Rattle.es_parser.proofs.BeginningsLemmas.{all_found}
 use Rattle.es_parser.proofs.sets.find_terminals.Goals as goal

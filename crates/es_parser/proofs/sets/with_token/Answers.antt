@@ -1,4 +1,4 @@
-use Rattle.std.proofs.Common.{◌≡◌, ◌∙◌, ℕ, List, Option, Some, None, ap, sym, subst}
+use Rattle.std.proofs.Common.{◌≡◌, ◌∙◌, ℕ, Option, Some, ap, sym, subst}
 use Rattle.std.specs.Prelude.{IfNone, IfSome, slice_get}
 use Rattle.es_grammar.specs.Terminals.{spellings, text_of}
 use Rattle.es_parser.proofs.KindSetsLemmas.{kinds_by}

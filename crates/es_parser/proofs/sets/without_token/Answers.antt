@@ -1,5 +1,3 @@
-use Rattle.std.proofs.Common.{◌≡◌}
-use Rattle.es_parser.proofs.BeginningsLemmas.{none_found}
 use Rattle.es_parser.proofs.TextSetsLemmas.{no_token}
 use Rattle.es_parser.proofs.sets.without_token.Goals as goal
 

@@ -1,7 +1,7 @@
-use Rattle.std.proofs.Common.{◌≡◌, ◌∙◌, sym, ap}
+use Rattle.std.proofs.Common.{◌∙◌, sym, ap}
 use Rattle.std.specs.Prelude.{slice_get}
 use Rattle.std.specs.Option.{unwrap_or}
-use Rattle.es_parser.specs.TextCodes.{candidate, key_of, text_codes}
+use Rattle.es_parser.specs.TextCodes.{key_of, text_codes}
 use Rattle.es_parser.proofs.TextCodesLemmas.{no_code}
 use Rattle.es_parser.proofs.TextSetsLemmas.{spelled_read}
 use Rattle.es_parser.proofs.text_sets.text_code.Goals as goal
