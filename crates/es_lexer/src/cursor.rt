@@ -39,6 +39,23 @@ impl<'a> Cursor<'a> {
         ensures step { IfSome result (λ step. StepsOver self.entry step.0 step.1) }
         ensures end { IfNone result (rest_of self.entry ≡ []) }
     {
+        let bytes = self.text.as_bytes();
+        if self.offset < bytes.len() && bytes[self.offset] < 128 {
+            let c = bytes[self.offset] as char;
+            let next = Cursor {
+                text: self.text,
+                offset: self.offset + 1,
+            };
+            return Some((c, next));
+        }
+        self.next_wide()
+    }
+
+    /// The same, of a character of any width.
+    fn next_wide(self) -> Option<(char, Cursor<'a>)>
+        ensures step { IfSome result (λ step. StepsOver self.entry step.0 step.1) }
+        ensures end { IfNone result (rest_of self.entry ≡ []) }
+    {
         let c = self.rest().chars().next()?;
         Some((
             c,

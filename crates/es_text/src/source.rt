@@ -2,7 +2,7 @@ ghost use Rattle.std.specs.Prelude.{◌≡◌, ◌≤◌, ◌<◌, length, IfOk,
 ghost use Rattle.std.specs.List.Sorted.{IsNonDecreasing};
 ghost use Rattle.std.specs.Str.{chars, encode_utf8_all, IsAscii, IsCharBoundary};
 ghost use Rattle.bstr.specs.Utf8.{lossy_chars};
-ghost use Rattle.es_text.specs.LineStarts.{line_starts, IsLineAt};
+ghost use Rattle.es_text.specs.LineStarts.{is_plain_byte, line_starts, IsLineAt, IsLineStep};
 ghost use Rattle.es_text.specs.SourceFaults.{most_bytes, TellsLength};
 ghost use Rattle.es_text.specs.Texts.{ends_line, IsPlain, place_at, text_bytes, text_of, units_at};
 
@@ -225,14 +225,37 @@ fn line_starts(alloc: Global, text: &str) -> Result<Vec<u32>, NoMemory>
     let mut starts = Vec::new(alloc);
     starts.push(0)?;
     let mut at = 0;
-    let mut rest = text.chars();
-    while let Some(c) = rest.next() {
-        at += c.len_utf8();
-        if is_line_end(c, rest.as_str()) {
+    while at < text.len() {
+        let (end, ends_line) = character_at(text, at);
+        at = end;
+        if ends_line {
             starts.push(at as u32)?;
         }
     }
     Ok(starts)
+}
+
+/// The end of the character that begins at this offset, and whether a line ends with it.
+fn character_at(text: &str, at: usize) -> (usize, bool)
+    requires boundary { IsCharBoundary text.now at }
+    requires within { at < length text.now }
+    ensures { IsLineStep text.now at result.0 result.1 }
+{
+    if is_plain(text.as_bytes()[at]) {
+        return (at + 1, false);
+    }
+    let mut rest = text[at..].chars();
+    match rest.next() {
+        Some(c) => (at + c.len_utf8(), is_line_end(c, rest.as_str())),
+        None => unreachable!(),
+    }
+}
+
+/// Whether the byte is a character of ASCII that ends no line.
+fn is_plain(byte: u8) -> bool
+    ensures { result ≡ is_plain_byte byte }
+{
+    byte < 128 && byte != 10 && byte != 13
 }
 
 /// Whether a line ends behind the character, with this text behind it.
