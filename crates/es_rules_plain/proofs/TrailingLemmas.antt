@@ -4,7 +4,7 @@ use Rattle.std.specs.Char.{len_utf8}
 use Rattle.std.specs.List.{list_all}
 use Rattle.std.specs.Str.{IsCharBoundary, chars}
 use Rattle.std.proofs.lemmas.List.Folds.{list_all-append}
-use Rattle.std.proofs.lemmas.Str.{IsCharBoundary-at_seam, chars-nil, chars_past_char, len_utf8_bounds, length-encode}
+use Rattle.std.proofs.lemmas.Str.{chars_past_char, len_utf8_bounds, length-encode}
 use Rattle.std.proofs.lemmas.Bool.Decides.{nat_tests}
 use Rattle.es_text.specs.Characters.{is_line_terminator, is_white_space}
 use Rattle.es_text.specs.declared.span.Span.{Span}
@@ -118,22 +118,6 @@ module _ (c : ℕ) (cs : List ℕ) where
       ] refl
 
 -- ---- steps of the loop
--- the rest stands at this offset of the text
-pub record Behind (text : List ℕ) (at : ℕ) (rest : List ℕ) : Type 0 where
-  pub front : List ℕ
-  pub whole : text ≡ front ++ rest
-  pub place : length front ≡ at
-
-pub behind_step : (text rest next : List ℕ) (at c : ℕ) → rest ≡ encode_utf8 c ++ next → Behind text at rest → Behind text (at + len_utf8 c) next
-behind_step text rest next at c splits known = record {
-  front = known.front ++ encode_utf8 c;
-  whole = known.whole ∙ ap (λ s. known.front ++ s) splits ∙ sym (append_assoc known.front (encode_utf8 c) next);
-  place = length-append known.front (encode_utf8 c) ∙ ap (λ n. n + length (encode_utf8 c)) known.place ∙ ap (λ n. at + n) (length-encode c);
-}
-
-pub behind_boundary : (text rest : List ℕ) (at : ℕ) → IsUtf8 rest → Behind text at rest → IsCharBoundary text at
-behind_boundary text rest at utf8 known = subst (IsCharBoundary text) known.place (IsCharBoundary-at_seam text known.front rest known.whole utf8)
-
 pub spans_step : (items more all : List Span) (s t : List ℕ) (c from at start : ℕ) → IsUtf8 s → s ≡ encode_utf8 c ++ t → from ≤ at →
     items ++ left_over from at (chars s) ≡ all →
     more ≡ items ++ (if is_line_terminator c then blank_between from at else []) →
@@ -174,17 +158,9 @@ parts_step text items more ends from at law order start end known pushed =
       | false ↦ refl
     ]
 
-pub length_step : (s t : List ℕ) (c : ℕ) → s ≡ encode_utf8 c ++ t → length s ≡ len_utf8 c + length t
-length_step s t c splits = ap length splits ∙ length-append (encode_utf8 c) t ∙ ap (λ n. n + length t) (length-encode c)
-
 -- white space begins where it began, or behind the character
 pub start_step : (P : ℕ → Type 0) (blank : Bool) (start from behind : ℕ) → start ≡ (if blank then from else behind) → P from → P behind → P start
 start_step P blank start from behind is one other = subst P (sym is) (elim blank as (λ b. P (cond b from behind)) [
   | true ↦ one
   | false ↦ other
 ])
-
--- nothing follows at the end
-pub ended : (s : List ℕ) → length s ≡ 0 → chars s ≡ []
-ended [] none = chars-nil
-ended (b ∷ s) none = absurd (omega arith)

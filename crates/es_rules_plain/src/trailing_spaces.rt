@@ -1,6 +1,7 @@
 //! White space at the ends of lines.
-ghost use Rattle.std.specs.Prelude.{◌≡◌, ◌≤◌, ◌++◌, [], if◌then◌else◌, length, All, IfOk, IsTrue, OnOk};
-ghost use Rattle.std.specs.Str.{chars};
+ghost use Rattle.std.specs.Prelude.{◌≡◌, ◌+◌, ◌<◌, ◌≤◌, ◌++◌, [], drop, false, if◌then◌else◌, length, All, IfOk, IsTrue, OnOk};
+ghost use Rattle.std.specs.Char.{encode_utf8, len_utf8};
+ghost use Rattle.std.specs.Str.{IsCharBoundary, chars};
 ghost use Rattle.es_text.specs.Characters.{is_line_terminator, is_white_space};
 ghost use Rattle.es_text.specs.Spans.{is_part};
 ghost use Rattle.es_text.specs.declared.source.TheConstants.{MOST_TEXT_BYTES};
@@ -22,14 +23,71 @@ pub fn trailing(alloc: Global, text: &str) -> Result<Vec<Span>, NoMemory>
     // Where the white space begins that ends at `at`; `at` itself where none does.
     let mut from = 0;
     let mut at = 0;
-    let mut rest = text.chars();
-    while let Some(c) = rest.next() {
-        end_line(c, from, at, &mut spans)?;
-        at += c.len_utf8();
-        from = start_of_blank(c, from, at);
+    while at < text.len() {
+        let c = char_at(text, at);
+        let behind = at + c.len_utf8();
+        from = step(c, from, at, behind, &mut spans)?;
+        at = behind;
     }
     put_blank(from, at, &mut spans)?;
     Ok(spans)
+}
+
+/// The character that begins at an offset.
+fn char_at(text: &str, at: usize) -> char
+    requires boundary { IsCharBoundary text.now at }
+    requires inside { at < length text.now }
+    ensures { drop at text.now ≡ encode_utf8 result ++ drop (at + len_utf8 result) text.now }
+{
+    let byte = text.as_bytes()[at];
+    if byte < 128 {
+        byte as char
+    } else {
+        decoded_at(text, at)
+    }
+}
+
+/// The same, of whichever length it is.
+fn decoded_at(text: &str, at: usize) -> char
+    requires boundary { IsCharBoundary text.now at }
+    requires inside { at < length text.now }
+    ensures { drop at text.now ≡ encode_utf8 result ++ drop (at + len_utf8 result) text.now }
+{
+    match text[at..].chars().next() {
+        Some(c) => c,
+        None => unreachable!(),
+    }
+}
+
+/// Where the white space begins that ends behind the character. That before it is put behind the spans, if the
+/// character ends a line.
+fn step(
+    c: char,
+    from: usize,
+    at: usize,
+    behind: usize,
+    spans: &mut Vec<Span>,
+) -> Result<usize, NoMemory>
+    requires order { from ≤ at }
+    requires bound { at ≤ MOST_TEXT_BYTES }
+    ensures start { IfOk result (λ start. start ≡ (if is_white_space c then from else behind)) }
+    ensures spans { OnOk result (spans.new.items
+        ≡ spans.old.items ++ (if is_line_terminator c then blank_between from at else [])) }
+{
+    if is_visible(c) {
+        return Ok(behind);
+    }
+    end_line(c, from, at, spans)?;
+    Ok(start_of_blank(c, from, behind))
+}
+
+/// Whether the character is one of ASCII that is seen, which most are.
+#[tactic(auto, unfolding(es_text::specs::Characters::is_white_space))]
+fn is_visible(c: char) -> bool
+    ensures blank { IsTrue result → is_white_space c ≡ false }
+    ensures end { IsTrue result → is_line_terminator c ≡ false }
+{
+    matches!(c, '!'..='~')
 }
 
 /// Puts the white space between two offsets behind the spans, if there is any.
