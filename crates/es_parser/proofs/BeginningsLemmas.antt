@@ -158,7 +158,7 @@ some_plain : (o : Option Token) (b : Bool) → b ≡ false → IsSome o → IsSo
 some_plain o true e h = absurd (cc)
 some_plain o false e h = h
 
-is_part : (terminal : Terminal) → goes_on terminal ≡ true → (terminal ≡ t.Middle) ⊎ (terminal ≡ t.Tail)
+pub is_part : (terminal : Terminal) → goes_on terminal ≡ true → (terminal ≡ t.Middle) ⊎ (terminal ≡ t.Tail)
 is_part t.Word h = absurd (cc)
 is_part t.Name h = absurd (cc)
 is_part t.Private h = absurd (cc)

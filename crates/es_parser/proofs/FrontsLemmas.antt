@@ -38,7 +38,7 @@ use Rattle.es_grammar.specs.Rules.{row}
 use Rattle.es_grammar.specs.Statements.{statement_rule}
 use Rattle.es_grammar.specs.TerminalSets.{code_of}
 use Rattle.es_grammar.specs.Terminals.{terminal_at}
-use Rattle.es_parser.specs.Fronts.{at_first, front_of, has_front, is_same, lacks_part, lacks_row, lacks_symbol, lacks_terminal, lacks_turns, turn_front}
+use Rattle.es_parser.specs.Fronts.{at_first, front_of, has_front, is_same, lacks_part, lacks_row, lacks_symbol, lacks_terminal, turn_front}
 use Rattle.es_parser.specs.Ends.{terminal_of}
 use Rattle.es_parser.specs.Kept.{HasTerminals, goes_on}
 use Rattle.es_parser.proofs.FixedLemmas.{first_of_both, second_of_both}
@@ -49,7 +49,7 @@ use Rattle.es_parser.proofs.SetsLemmas.{not_there}
 in_front : ℕ → ℕ → Symbol → Bool
 in_front rank front inner = nat_lt (rank_of inner) rank && option_map_or (λ own. bit_or own front == front) (front_of inner) false
 
-has_terminal : ℕ → Terminal → Bool
+unfoldable pub has_terminal : ℕ → Terminal → Bool
 has_terminal front terminal = not (goes_on terminal) && bit_at front (code_of terminal) == 1
 
 has_part : ℕ → ℕ → Part → Option Bool
@@ -364,18 +364,18 @@ subset own front i e h =
 no_bit : {A : Type 0} (n i : ℕ) → n ≡ 0 → bit_at n i ≡ 1 → A
 no_bit n i e h = let none : bit_at 0 i ≡ 1 = subst (λ m. bit_at m i ≡ 1) e h in absurd (omega (arith, bit_at-zero i, none))
 
-apart : (front set i : ℕ) → (bit_and front set == 0) ≡ true → bit_at front i ≡ 1 → (bit_at set i == 1) ≡ false
+pub apart : (front set i : ℕ) → (bit_and front set == 0) ≡ true → bit_at front i ≡ 1 → (bit_at set i == 1) ≡ false
 apart front set i e h = split (bit_at set i == 1) refl
   where
     split : (b : Bool) → (bit_at set i == 1) ≡ b → (bit_at set i == 1) ≡ false
     split true k = no_bit (bit_and front set) i (eqb-true (bit_and front set) 0 e) (omega (arith, bit_at_and front set i, h, eqb-true (bit_at set i) 1 k))
     split false k = k
 
-both : (a b : Bool) → a ≡ true → b ≡ true → (a && b) ≡ true
+pub both : (a b : Bool) → a ≡ true → b ≡ true → (a && b) ≡ true
 both true b h k = k
 both false b h k = h
 
-has_more : (own front : ℕ) (terminal : Terminal) → (bit_or own front == front) ≡ true → has_terminal own terminal ≡ true → has_terminal front terminal ≡ true
+pub has_more : (own front : ℕ) (terminal : Terminal) → (bit_or own front == front) ≡ true → has_terminal own terminal ≡ true → has_terminal front terminal ≡ true
 unfolding has_terminal
 has_more own front terminal e h =
     let plain = first_of_both (not (goes_on terminal)) (bit_at own (code_of terminal) == 1) h in
@@ -480,7 +480,7 @@ module _ (text : List ℕ) (spot : Spot) where
         (rows_missing rows (second_of_both (at_first test row.parts) (list_all (λ row. at_first test row.parts) rows) h) seed)
 
   -- none of the terminals of a set reads the next token
-  Never : ℕ → Type 0
+  unfoldable pub Never : ℕ → Type 0
   Never front = (terminal : Terminal) → has_terminal front terminal ≡ true → terminal_at text spot.context terminal spot.at ≡ None
 
   AreGone : ℕ → Type 0
@@ -538,8 +538,15 @@ module _ (text : List ℕ) (spot : Spot) where
       (λ other its lower other_is other_never. symbols_gone rank other its (omega (arith, below, lower)) other_is other_never)
       never one (rule_of one) refl (fronted one own is)
 
+  -- nor what begins a turn behind a symbol's head
+  pub turns_never : (one : Symbol) (front : ℕ) → turn_front one ≡ Some front → Never front → (seed : Draft) →
+      ReadsChoice text (turn_rows (rule_of one)) spot seed Not
+  turns_never one front is never =
+      rows_missing (has_part (rank_of one) front) (has_gone (rank_of one) front (symbols_gone (rank_of one)) never) (has_none (rank_of one) front)
+      (turn_rows (rule_of one)) (turns_told one front is)
+
   module _ (set : ℕ) (exact : HasTerminals text spot.context spot.at set) where
-    never_in : (front : ℕ) → (bit_and front set == 0) ≡ true → Never front
+    pub never_in : (front : ℕ) → (bit_and front set == 0) ≡ true → Never front
     unfolding Never has_terminal
     never_in front e terminal has =
         not_there text spot.context terminal spot.at set
@@ -580,16 +587,6 @@ module _ (text : List ℕ) (spot : Spot) where
 
     pub lacks_rows : (rows : List Row) → list_all (lacks_row set) rows ≡ true → (seed : Draft) → ReadsChoice text rows spot seed Not
     lacks_rows rows h seed = rows_missing (lacks_part set) lacks_gone (lacks_none set) rows h seed
-
-    turns_gone : (one : Symbol) (own : Option ℕ) → turn_front one ≡ own → option_map_or (λ front. bit_and front set == 0) own false ≡ true → (seed : Draft) →
-        ReadsChoice text (turn_rows (rule_of one)) spot seed Not
-    turns_gone one None is h = absurd (cc)
-    turns_gone one (Some front) is h =
-        rows_missing (has_part (rank_of one) front) (has_gone (rank_of one) front (symbols_gone (rank_of one)) (never_in front h)) (has_none (rank_of one) front)
-        (turn_rows (rule_of one)) (turns_told one front is)
-
-    pub lacks_turns_gone : (one : Symbol) → lacks_turns set one ≡ true → (seed : Draft) → ReadsChoice text (turn_rows (rule_of one)) spot seed Not
-    lacks_turns_gone one h = turns_gone one (turn_front one) refl h
 
 -- lists that are gone over
 pub first_step : (test : Part → Option Bool) (d : Part) (ps : List Part) (i : ℕ) → i < length ps →

@@ -18,3 +18,4 @@ mod SketchesLemmas
 mod TerminalsLemmas
 mod TextCodesLemmas
 mod TextSetsLemmas
+mod TurnsLemmas

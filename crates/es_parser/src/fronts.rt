@@ -13,10 +13,9 @@ ghost use Rattle.es_parser.specs.Fronts.{lacks_symbol, lacks_terminal, lacks_tur
 ghost use Rattle.es_parser.specs.Kept.{HasTerminals};
 ghost use Rattle.es_parser.specs.Turns.{IsOver};
 
-use crate::beginnings::LATER_PARTS;
 use crate::reader::Reader;
 use crate::terminals::has;
-use es_grammar::{Alternative, Change, Part, Spot, Symbol, Terminal, can_begin};
+use es_grammar::{Alternative, Change, Part, Spot, Symbol, Terminal};
 
 /// The set that stands before the symbol among these.
 macro_rules! fronts {
@@ -201,8 +200,5 @@ pub fn is_quiet(_reader: &Reader, symbol: Symbol, set: u128, spot: Spot) -> bool
     requires { HasTerminals _reader.now spot.context spot.at set }
     ensures { OnTrue result (IsOver _reader.now (turn_rows (rule_of symbol)) spot) }
 {
-    if !lacks_turns(set, symbol) {
-        return false;
-    }
-    !can_begin(symbol, set | LATER_PARTS)
+    lacks_turns(set, symbol)
 }
