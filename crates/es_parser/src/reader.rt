@@ -16,8 +16,8 @@ use es_lexer::{has_line, next};
 use es_text::{LexMode, NoMemory, Source, Steps, Token};
 use std::alloc::Global;
 use std::marker::Model;
-use std::mem;
 use std::sync::ledger::Ledger;
+use std::{cmp, mem};
 
 /// A token that was read from the offset `at` on, where `/` and `}` are punctuators.
 #[derive(Clone, Copy)]
@@ -51,16 +51,19 @@ pub struct KeptOutcome {
     pub end: u32,
 }
 
-/// How many sets of terminals, refusals and outcomes are kept at most: powers of 2.
+/// How many sets of terminals, refusals and outcomes are kept at most: powers of 2. Of a short text fewer are kept.
 const SETS: usize = 1024;
 
 const REFUSALS: usize = 16_384;
 
 const OUTCOMES: usize = 512;
 
+/// How many of each are kept at least.
+const LEAST: usize = 32;
+
 /// A text that is being read. Contracts see its bytes.
 ///
-/// It takes 4 bytes for each byte of the text, 20 for each token and 400 KB besides.
+/// It takes 4 bytes for each byte of the text, 20 for each token and 400 KB at most besides.
 #[derive(Drop)]
 pub struct Reader<'a> {
     source: &'a Source,
@@ -112,6 +115,12 @@ fn place_of(key: u64, count: usize) -> usize {
     key as usize & count.wrapping_sub(1)
 }
 
+/// How many entries a table has that has so many at most, for a text of so many bytes: a power of 2.
+fn entries(length: usize, most: usize) -> usize {
+    let wanted = cmp::min(length / 4, REFUSALS) + LEAST;
+    cmp::min(wanted.next_power_of_two(), most)
+}
+
 /// A table in which nothing is kept yet.
 fn table<T: Copy + Drop>(alloc: Global, count: usize) -> Result<Vec<Option<T>>, NoMemory>
     ensures { IfOk result (λ table. All (λ kept. IsNone kept) table.items) }
@@ -120,11 +129,11 @@ fn table<T: Copy + Drop>(alloc: Global, count: usize) -> Result<Vec<Option<T>>, 
 }
 
 /// The table of outcomes, in which nothing is kept yet.
-fn no_outcomes(alloc: Global) -> Result<Vec<Option<KeptOutcome>>, NoMemory>
+fn no_outcomes(alloc: Global, count: usize) -> Result<Vec<Option<KeptOutcome>>, NoMemory>
     ensures { IfOk result (λ table. All (λ kept. IsNone kept) table.items) }
 {
-    let mut table = Vec::with_capacity(alloc, OUTCOMES)?;
-    for _ in 0..OUTCOMES {
+    let mut table = Vec::with_capacity(alloc, count)?;
+    for _ in 0..count {
         table.push(None)?;
     }
     Ok(table)
@@ -183,10 +192,11 @@ impl<'a> Reader<'a> {
     pub fn new(alloc: Global, source: &'a Source) -> Result<Reader<'a>, NoMemory>
         ensures { IfOk result (λ reader. reader ≡ text_bytes source.now) }
     {
-        let places = vec![in alloc; u32::MAX; source.text().len() + 1]?;
-        let terminals = table(alloc, SETS)?;
-        let refusals = table(alloc, REFUSALS)?;
-        let outcomes = no_outcomes(alloc)?;
+        let length = source.text().len();
+        let places = vec![in alloc; u32::MAX; length + 1]?;
+        let terminals = table(alloc, entries(length, SETS))?;
+        let refusals = table(alloc, entries(length, REFUSALS))?;
+        let outcomes = no_outcomes(alloc, entries(length, OUTCOMES))?;
         Ok(Reader {
             source,
             places,
